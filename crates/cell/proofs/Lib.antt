@@ -1,0 +1,4 @@
+-- What belongs to no one function.
+pub mod Fits
+pub mod Sides
+pub mod Loops

@@ -1,0 +1,86 @@
+-- `cell::step::wet` meets its contract. Each call gives its rule, and the rules put together are the definition. Assumes nothing.
+use mathlib.Core.Path.{_≡_, refl, sym, ap, _∙_}
+use Prim.Native.Nat.{ℕ, _+_, _-_}
+use Rattle.cell.specs.declared.Card.{Card}
+use Rattle.cell.specs.declared.Depth.{Depth}
+use Rattle.cell.specs.declared.Reading.{Reading}
+use Rattle.cell.specs.declared.ranges.Soil.{Soil}
+use Rattle.cell.specs.declared.step.Wetting.{Wetting}
+use Rattle.cell.specs.Water.{water}
+use Rattle.cell.specs.Rules.{curveOf, stormOf, delayOf, runoffOf, etvadOf, lackOf}
+use Rattle.cell.specs.Step.{given, curve, storm, delay, runoff, etvad, lack, sunk, wettingOf}
+use borrow.Author.Needs.{needs}
+use Rattle.cell.proofs.step.wet.Statement.{statement}
+use Rattle.cell.proofs.step.wet.Tie as tie
+
+-- the calls' results, put together
+module _ (card : Card) (soil : Soil) (r : Reading) (d : Depth) where
+  whole : {n q k o e l : ℕ} → n ≡ curveOf (soil .cn) (r .amc) → q ≡ stormOf n (r .rain) → k ≡ delayOf (card .depths) (card .delays) d
+      → o ≡ runoffOf (r .rain + r .irrig) q k (soil .vadpor) d → e ≡ etvadOf (r .rain + r .irrig) o (r .pet) (r .etmin) (r .irrig) → l ≡ lackOf e (r .etmin) d
+      → _≡_ {A = Wetting} (record { delay = k; runoff = water o; etvad = water e; lack = water l; sunk = water (r .rain + r .irrig - o - e) }) (wettingOf card soil r d)
+  unfolding given curve storm delay runoff etvad lack sunk wettingOf
+  whole hn hq hk ho he hl = cc
+
+cast-storm : tie.Need-cast-storm
+cast-storm c = search needs
+
+cast-storm-2 : tie.Need-cast-storm-2
+cast-storm-2 c = search needs
+
+cast-storm-3 : tie.Need-cast-storm-3
+cast-storm-3 c = search needs
+
+add-storm : tie.Need-add-storm
+add-storm c = search needs
+
+curve-requires : tie.Need-curve-requires
+curve-requires c κs = search needs
+
+storm-requires : tie.Need-storm-requires
+storm-requires c κs = search needs
+
+delay-requires : tie.Need-delay-requires
+delay-requires c κs = search needs
+
+runoff-requires : tie.Need-runoff-requires
+runoff-requires c κs = search needs
+
+cast-t13 : tie.Need-cast-t13
+cast-t13 c = search needs
+
+etvad-requires : tie.Need-etvad-requires
+etvad-requires c κs = search needs
+
+lack-requires : tie.Need-lack-requires
+lack-requires c κs = search needs
+
+sub-t13 : tie.Need-sub-t13
+sub-t13 c = search needs
+
+sub-t15 : tie.Need-sub-t15
+sub-t15 c = search needs
+
+returns : tie.Need-returns
+returns c =
+    let a = c .before .before .before .before .before .before .before .before .before .before .before .before .before .before .before .args in
+    whole (a .card) (a .soil) (a .r) (a .d) (c .before .before .before .before .before .before .before .before .before .curve .ensures .0) (c .before .before .before .before .before .before .before .before .storm .ensures .0) (c .before .before .before .before .before .before .before .delay .ensures .0)
+    (c .before .before .before .before .before .before .runoff .ensures .0) (c .before .before .before .before .etvad .ensures .0) (c .before .before .before .lack .ensures .0)
+
+pub wet-spec : {M : Type 1} → statement M
+wet-spec =
+    tie.close
+    (tie.spec
+    cast-storm
+    cast-storm-2
+    cast-storm-3
+    add-storm
+    curve-requires
+    storm-requires
+    delay-requires
+    runoff-requires
+    cast-t13
+    etvad-requires
+    lack-requires
+    sub-t13
+    sub-t15
+    returns)

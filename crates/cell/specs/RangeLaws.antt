@@ -1,0 +1,139 @@
+-- What a card, soil numbers, a row and a reading that are in range tell, part by part. Assumes nothing.
+use mathlib.Core.Path.{_≡_, refl}
+use mathlib.Core.Bool.{Bool, true, false, _&&_, and-eq-true-iff}
+use mathlib.Core.List.{List, [], _∷_}
+use Prim.Native.Nat.{ℕ, suc, _≤_, suc-le-suc, zero-le}
+use borrow.Author.Tests.{leb-true, eqb-true, le-leb, eq-eqb}
+use lib.Dec.{leb, eqb}
+use lib.IntN.{ℤ, pos, negsuc, natAbs}
+use lib.Signed.{leZ}
+use lib.ListN.{length, getD}
+use native.Mathlib.Omega.{arith}
+use Rattle.cell.specs.declared.Card.{Card}
+use Rattle.cell.specs.declared.Reading.{Reading}
+use Rattle.cell.specs.Ranges.{cardOk, depthsOk, within, soilOk, soilOf, lifeOf, nextOf, slotsOf, slotsOk, rowOk, fieldsOk}
+use Rattle.cell.specs.Conj.{told}
+use Rattle.cell.specs.QueueLaws.{SlotsIn, slots-in, slots-ok}
+
+-- ---- the card
+pub record CardIn (card : Card) : Type 0 where
+  pub cells-low : 1 ≤ card .cells
+  pub cells-high : card .cells ≤ 256
+  pub delays : card .delays ≤ 30
+  pub depths : depthsOk (card .delays) 0 (card .depths) ≡ true
+
+pub card-in : (card : Card) → cardOk card ≡ true → CardIn card
+unfolding cardOk
+card-in card e =
+    let p = told (leb 1 (card .cells)) (leb (card .cells) 256 ∷ leb (card .delays) 30 ∷ depthsOk (card .delays) 0 (card .depths) ∷ []) e in
+    record { cells-low = leb-true _ _ (p 0); cells-high = leb-true _ _ (p 1); delays = leb-true _ _ (p 2); depths = p 3 }
+
+-- ---- the soil numbers
+pub record SoilIn (s : List ℤ) : Type 0 where
+  pub long : length s ≡ 5
+  pub top : natAbs (getD s 0 (pos 0)) ≤ 10000000000
+  pub etdepth-plain : leZ (pos 0) (getD s 1 (pos 0)) ≡ true
+  pub vadpor-plain : leZ (pos 0) (getD s 2 (pos 0)) ≡ true
+  pub leak-plain : leZ (pos 0) (getD s 3 (pos 0)) ≡ true
+  pub cn-plain : leZ (pos 0) (getD s 4 (pos 0)) ≡ true
+  pub etdepth-low : 1 ≤ soilOf s .etdepth
+  pub etdepth : soilOf s .etdepth ≤ 100000000
+  pub vadpor-low : 1 ≤ soilOf s .vadpor
+  pub vadpor : soilOf s .vadpor ≤ 1000
+  pub leak : soilOf s .leak ≤ 1000000
+  pub cn-low : 1 ≤ soilOf s .cn
+  pub cn : soilOf s .cn ≤ 100
+
+size-in : (n : ℕ) (z : ℤ) → within (negsuc n) (pos (suc n)) z ≡ true → natAbs z ≤ suc n
+unfolding within
+size-in n (pos a) e = leb-true a (suc n) e
+size-in n (negsuc a) e = suc-le-suc (leb-true a n (and-eq-true-iff (leb a n) true .0 e .0))
+
+-- a number between two that are not negative
+pub record Plain (low high : ℕ) (z : ℤ) : Type 0 where
+  pub sign : leZ (pos 0) z ≡ true
+  pub least : low ≤ natAbs z
+  pub most : natAbs z ≤ high
+
+plain-in : (low high : ℕ) (z : ℤ) → within (pos low) (pos high) z ≡ true → Plain low high z
+unfolding within
+plain-in low high (pos a) e =
+    let p = and-eq-true-iff (leb low a) (leb a high) .0 e in
+    record { sign = le-leb 0 a zero-le; least = leb-true low a (p .0); most = leb-true a high (p .1) }
+plain-in low high (negsuc a) e = let z : _≡_ {A = ℕ} 0 1 = cc in absurd (omega arith)
+
+pub soil-in : (s : List ℤ) → soilOk s ≡ true → SoilIn s
+unfolding soilOk soilOf
+soil-in s e =
+    let at : ℕ → ℤ = λ i. getD s i (pos 0) in
+    let p =
+        told (eqb (length s) 5)
+        (within (negsuc 9999999999) (pos 10000000000) (at 0) ∷ within (pos 1) (pos 100000000) (at 1) ∷ within (pos 1) (pos 1000) (at 2)
+        ∷ within (pos 0) (pos 1000000) (at 3) ∷ within (pos 1) (pos 100) (at 4) ∷ []) e in
+    let a = plain-in 1 100000000 (at 1) (p 2) in
+    let b = plain-in 1 1000 (at 2) (p 3) in
+    let c = plain-in 0 1000000 (at 3) (p 4) in
+    let d = plain-in 1 100 (at 4) (p 5) in
+    record {
+      long = eqb-true _ _ (p 0);
+      top = size-in 9999999999 (at 0) (p 1);
+      etdepth-plain = a .sign;
+      vadpor-plain = b .sign;
+      leak-plain = c .sign;
+      cn-plain = d .sign;
+      etdepth-low = a .least;
+      etdepth = a .most;
+      vadpor-low = b .least;
+      vadpor = b .most;
+      leak = c .most;
+      cn-low = d .least;
+      cn = d .most;
+    }
+
+-- ---- the row
+pub record RowIn (m : ℕ) (row : List ℕ) : Type 0 where
+  pub long : length row ≡ 32
+  pub life : lifeOf row ≤ 65535
+  pub next : nextOf row ≤ 1000000
+  pub slots : SlotsIn m (slotsOf row)
+
+pub row-in : (m : ℕ) (row : List ℕ) → rowOk m row ≡ true → RowIn m row
+unfolding rowOk
+row-in m row e =
+    let p = told (eqb (length row) 32) (leb (lifeOf row) 65535 ∷ leb (nextOf row) 1000000 ∷ slotsOk m (slotsOf row) ∷ []) e in
+    record { long = eqb-true _ _ (p 0); life = leb-true _ _ (p 1); next = leb-true _ _ (p 2); slots = slots-in m (slotsOf row) (p 3) }
+
+pub row-ok : (m : ℕ) (row : List ℕ) → RowIn m row → rowOk m row ≡ true
+unfolding rowOk
+row-ok m row h = simp (eq-eqb _ _ (h .long), le-leb _ _ (h .life), le-leb _ _ (h .next), slots-ok m (slotsOf row) (h .slots))
+
+-- ---- the reading
+pub record FieldsIn (r : Reading) : Type 0 where
+  pub life : r .life ≤ 65535
+  pub count : r .count ≤ 999999
+  pub rain : r .rain ≤ 1000000
+  pub irrig : r .irrig ≤ 1000000
+  pub septic : r .septic ≤ 1000000
+  pub pet : r .pet ≤ 1000000
+  pub etmin : r .etmin ≤ r .pet
+  pub amc-low : 1 ≤ r .amc
+  pub amc : r .amc ≤ 3
+
+pub fields-in : (r : Reading) → fieldsOk r ≡ true → FieldsIn r
+unfolding fieldsOk
+fields-in r e =
+    let p =
+        told (leb (r .life) 65535)
+        (leb (r .count) 999999 ∷ leb (r .rain) 1000000 ∷ leb (r .irrig) 1000000 ∷ leb (r .septic) 1000000 ∷ leb (r .etmin) 1000000
+        ∷ leb (r .pet) 1000000 ∷ leb (r .etmin) (r .pet) ∷ leb 1 (r .amc) ∷ leb (r .amc) 3 ∷ []) e in
+    record {
+      life = leb-true _ _ (p 0);
+      count = leb-true _ _ (p 1);
+      rain = leb-true _ _ (p 2);
+      irrig = leb-true _ _ (p 3);
+      septic = leb-true _ _ (p 4);
+      pet = leb-true _ _ (p 6);
+      etmin = leb-true _ _ (p 7);
+      amc-low = leb-true _ _ (p 8);
+      amc = leb-true _ _ (p 9);
+    }

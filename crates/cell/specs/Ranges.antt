@@ -1,0 +1,84 @@
+-- Numbers and their ranges: of a card, of a cell's soil numbers, of its stored row, of a reading. Definitions only.
+use Prim.Native.Nat.{ℕ, zero, suc, _-_, _*_}
+use mathlib.Core.Bool.{Bool, true, _&&_}
+use mathlib.Core.List.{List, [], _∷_}
+use lib.Dec.{leb, ltb, eqb}
+use lib.IntN.{ℤ, pos, negsuc, natAbs}
+use lib.Signed.{leZ}
+use lib.ListN.{length, getD, take, drop}
+use Rattle.cell.specs.declared.Card.{Card}
+use Rattle.cell.specs.declared.Reading.{Reading}
+use Rattle.cell.specs.declared.ranges.Soil.{Soil}
+
+-- ---- the card: cells 1..256; delays M 0..30; M delay depths, each 1..1,000,000,000 µm, strictly rising; unused places hold 0
+-- one place, with m places in use from here on and the depth `before` in the place before it (0 at the first)
+unfoldable pub depthOk : ℕ → ℕ → ℕ → Bool
+depthOk zero before d = eqb d 0
+depthOk (suc m) before d = ltb before d && leb d 1000000000
+
+unfoldable pub depthsOk : ℕ → ℕ → List ℕ → Bool
+depthsOk m before [] = true
+depthsOk m before (d ∷ ds) = depthOk m before d && depthsOk (m - 1) d ds
+
+unfoldable pub cardOk : Card → Bool
+cardOk card = leb 1 (card .cells) && leb (card .cells) 256 && leb (card .delays) 30 && depthsOk (card .delays) 0 (card .depths)
+
+-- ---- the soil numbers, five of them: top, etdepth, vadpor, leak, cn
+unfoldable pub within : ℤ → ℤ → ℤ → Bool
+within low high z = leZ low z && leZ z high
+
+unfoldable pub soilOk : List ℤ → Bool
+soilOk s =
+    eqb (length s) 5
+    && within (negsuc 9999999999) (pos 10000000000) (getD s 0 (pos 0))
+    && within (pos 1) (pos 100000000) (getD s 1 (pos 0))
+    && within (pos 1) (pos 1000) (getD s 2 (pos 0))
+    && within (pos 0) (pos 1000000) (getD s 3 (pos 0))
+    && within (pos 1) (pos 100) (getD s 4 (pos 0))
+
+-- the five numbers by their names
+unfoldable pub soilOf : List ℤ → Soil
+soilOf s =
+    record {
+      top = record { 0 = getD s 0 (pos 0) };
+      etdepth = natAbs (getD s 1 (pos 0));
+      vadpor = natAbs (getD s 2 (pos 0));
+      leak = natAbs (getD s 3 (pos 0));
+      cn = natAbs (getD s 4 (pos 0));
+    }
+
+-- ---- the stored row, 32 numbers: life 0..65,535; next count 0..1,000,000; slots 1..30
+abbrev pub lifeOf : List ℕ → ℕ
+lifeOf row = getD row 0 0
+
+abbrev pub nextOf : List ℕ → ℕ
+nextOf row = getD row 1 0
+
+abbrev pub slotsOf : List ℕ → List ℕ
+slotsOf row = take 30 (drop 2 row)
+
+-- the waiting queue: slots 1..M
+abbrev pub queueOf : ℕ → List ℕ → List ℕ
+queueOf m row = take m (drop 2 row)
+
+-- slot k is at most 2,000,000 x (M - k + 1), and 0 above M: M at the first slot, one less at each after it, down to 0
+unfoldable pub slotsOk : ℕ → List ℕ → Bool
+slotsOk m [] = true
+slotsOk m (s ∷ ss) = leb s (2000000 * m) && slotsOk (m - 1) ss
+
+unfoldable pub rowOk : ℕ → List ℕ → Bool
+rowOk m row = eqb (length row) 32 && leb (lifeOf row) 65535 && leb (nextOf row) 1000000 && slotsOk m (slotsOf row)
+
+-- ---- the reading, but for its cell and its head
+unfoldable pub fieldsOk : Reading → Bool
+fieldsOk r =
+    leb (r .life) 65535
+    && leb (r .count) 999999
+    && leb (r .rain) 1000000
+    && leb (r .irrig) 1000000
+    && leb (r .septic) 1000000
+    && leb (r .etmin) 1000000
+    && leb (r .pet) 1000000
+    && leb (r .etmin) (r .pet)
+    && leb 1 (r .amc)
+    && leb (r .amc) 3

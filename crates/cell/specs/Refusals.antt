@@ -1,0 +1,93 @@
+-- The refusal numbers, and the checks of a step in their order. Definitions only.
+use Prim.Native.Nat.{ℕ}
+use mathlib.Core.Bool.{Bool, true, false, not, _&&_, _||_}
+use mathlib.Core.List.{List}
+use lib.Dec.{ltb, eqb}
+use lib.IntN.{ℤ, pos}
+use lib.ListN.{getD}
+use Rattle.head.specs.declared.Head.{Head}
+use Rattle.head.specs.declared.Head.the-variants.{Level, Dry, Inactive, Unusable}
+use Rattle.head.specs.Class.{classOf}
+use Rattle.head.specs.Level.{levelUm}
+use Rattle.cell.specs.declared.Card.{Card}
+use Rattle.cell.specs.declared.Reading.{Reading}
+use Rattle.cell.specs.declared.Amounts.{Amounts}
+use Rattle.cell.specs.declared.Refusal.{Refusal}
+use Rattle.cell.specs.declared.Refusal.the-variants.{BadCard, BadLengths, BadCell, BadSoil, BadRow, Old, Gap, BadReading, UnusableHead, InactiveHead}
+use Rattle.cell.specs.declared.Answer.{Answer}
+use Rattle.cell.specs.declared.Answer.the-variants.{Accepted, Refused}
+use Rattle.cell.specs.declared.checks.Verdict.{Verdict}
+use Rattle.cell.specs.declared.checks.Verdict.the-variants.{Fine, Bad}
+use Rattle.cell.specs.Water.{water, net}
+use Rattle.cell.specs.Ranges.{cardOk, soilOk, rowOk, fieldsOk, lifeOf, nextOf}
+use Rattle.cell.specs.Depth.{depthOf, dryDepth}
+
+abbrev pub refusalNumber : Refusal → ℕ
+refusalNumber BadCard = 1
+refusalNumber BadLengths = 2
+refusalNumber BadCell = 3
+refusalNumber BadSoil = 4
+refusalNumber BadRow = 5
+refusalNumber Old = 6
+refusalNumber Gap = 7
+refusalNumber BadReading = 8
+refusalNumber UnusableHead = 9
+refusalNumber InactiveHead = 10
+
+-- the number of an answer: 0 where it was accepted
+abbrev pub numberOf : Answer → ℕ
+numberOf (Accepted a) = 0
+numberOf (Refused r) = refusalNumber r
+
+-- ten zero amounts
+abbrev pub nothing : Amounts
+nothing =
+    record {
+      inflow = water 0;
+      runoff = water 0;
+      etvad = water 0;
+      etstor = water 0;
+      etsat = water 0;
+      drain = water 0;
+      release = water 0;
+      stored = water 0;
+      recharge = net (pos 0);
+      left = water 0;
+    }
+
+-- the amounts of an answer: zeros where it was refused
+abbrev pub amountsOf : Answer → Amounts
+amountsOf (Accepted a) = a
+amountsOf (Refused r) = nothing
+
+-- of a row's life and next count
+-- 6. old: life lower, or same life and count lower than next
+unfoldable pub isOld : ℕ → ℕ → Reading → Bool
+isOld life next r = ltb (r .life) life || (eqb (r .life) life && ltb (r .count) next)
+
+-- 7. gap: same life and count higher than next, or life higher and count not 0
+unfoldable pub isGap : ℕ → ℕ → Reading → Bool
+isGap life next r = (eqb (r .life) life && ltb next (r .count)) || (ltb life (r .life) && not (eqb (r .count) 0))
+
+-- 9 and 10. What passes is a depth
+unfoldable pub sounded : ℤ → Head → Verdict
+sounded top Unusable = Bad UnusableHead
+sounded top Inactive = Bad InactiveHead
+sounded top Dry = Fine dryDepth
+sounded top (Level x) = Fine (depthOf top (levelUm x))
+
+-- a check: refused with r where it fails, else on to the next
+unfoldable pub unless : Bool → Refusal → Verdict → Verdict
+unless true r next = next
+unless false r next = Bad r
+
+-- the first check that fails, in their order; 2 and 3 are the site's
+unfoldable pub verdictOf : Card → List ℤ → List ℕ → Reading → Verdict
+verdictOf card soil row r =
+    unless (cardOk card) BadCard
+    (unless (soilOk soil) BadSoil
+    (unless (rowOk (card .delays) row) BadRow
+    (unless (not (isOld (lifeOf row) (nextOf row) r)) Old
+    (unless (not (isGap (lifeOf row) (nextOf row) r)) Gap
+    (unless (fieldsOk r) BadReading
+    (sounded (getD soil 0 (pos 0)) (classOf (r .head))))))))

@@ -1,0 +1,167 @@
+-- Laws of the number rules and of the depth, so that no caller looks into a rule's text. Assumes nothing.
+use mathlib.Core.Path.{_≡_, refl}
+use mathlib.Core.Bool.{Bool, true, false, cond}
+use mathlib.Core.Logic.{⊎-elim}
+use mathlib.Core.List.{List}
+use Prim.Native.Nat.{ℕ, zero, suc, _+_, _-_, _*_, _≤_, _<_, max}
+use native.Mathlib.Nat.{mul-le-mul, div-le-of-le-mul, div-lt-iff-lt-mul, le-trans, le-of-eq, eq-or-lt-of-le}
+use native.Mathlib.Omega.{arith}
+use borrow.Author.Tests.{ltb-true, leb-true, leb-false, eq-eqb}
+use lib.Dec.{leb, ltb, eqb}
+use lib.ListN.{getD}
+use lib.IntN.{ℤ, pos, negsuc, natAbs, _-ℤ_}
+use Rattle.cell.specs.declared.Depth.{Depth}
+use Rattle.cell.specs.declared.Depth.the-variants.{Over, Under}
+use Rattle.cell.specs.Bounds.{share, either, abs-sub, abs-minus}
+use Rattle.cell.specs.Depth.{sided, depthOf, distance}
+use Rattle.cell.specs.Rules.{nearest, curveOf, stormOf, reachOf, delayOf, shallowOf, runoffOf, etvadOf, lackOf, fadingOf, etsatOf, drainOf, storedOf, directOf, rechargeOf}
+
+-- ---- the depth of two heights within their ranges
+sided-abs : (d : ℤ) → distance (sided d) ≡ natAbs d
+unfolding sided distance
+sided-abs (pos zero) = refl
+sided-abs (pos (suc n)) = refl
+sided-abs (negsuc n) = refl
+
+pub depth-le : (top level : ℤ) → natAbs top ≤ 10000000000 → natAbs level ≤ 10000000000 → distance (depthOf top level) ≤ 20000000000
+unfolding depthOf
+depth-le top level h k = rw sided-abs (abs-sub top level 10000000000 10000000000 h k)
+
+-- ---- 2. the curve number is in 1..100
+nearest-le : (n d k : ℕ) → 0 < d → 2 * n + d < (k + 1) * (2 * d) → nearest n d ≤ k
+nearest-le n d k p h = omega (arith, div-lt-iff-lt-mul {k = 2 * d} {x = 2 * n + d} {y = k + 1} (omega arith) .1 h)
+
+pub curve-low : (cn amc : ℕ) → 1 ≤ curveOf cn amc
+unfolding curveOf
+curve-low cn amc = omega arith
+
+pub curve-high : (cn amc : ℕ) → cn ≤ 100 → curveOf cn amc ≤ 100
+unfolding curveOf
+curve-high cn amc h =
+    either (λ n. max 1 n ≤ 100) (eqb amc 1)
+    (λ e. omega (arith, nearest-le (4200 * cn) (10000 - 58 * cn) 100 (omega arith) (omega arith)))
+    (λ e. either (λ n. max 1 n ≤ 100) (eqb amc 3)
+    (λ e. omega (arith, nearest-le (2300 * cn) (1000 + 13 * cn) 100 (omega arith) (omega arith)))
+    (λ e. omega arith))
+
+-- ---- 3. no more runs off than rains
+pub storm-le : (c rain : ℕ) → stormOf c rain ≤ rain
+unfolding stormOf
+storm-le c rain =
+    either (λ n. n ≤ rain) (leb (c * rain) (50800 * (100 - c))) (λ e. omega arith)
+    (λ e. div-le-of-le-mul (c * y) (le-trans (mul-le-mul {n₂ = c * rain} {m₂ = y} (omega arith) (omega arith)) (le-of-eq turn)))
+  where
+    y : ℕ
+    y = c * rain + 203200 * (100 - c)
+
+    turn : c * rain * y ≡ c * y * rain
+    turn = omega arith
+
+-- ---- 4. the delay is one of the m; where it is one, its depth is at most n; and each deeper one's is not: it is the largest
+pub reach-le : (ds : List ℕ) (m n : ℕ) → reachOf ds m n ≤ m
+unfolding reachOf
+reach-le ds zero n = omega arith
+reach-le ds (suc k) n =
+    let h = reach-le ds k n in either (λ r. r ≤ suc k) (leb (getD ds k 0) n) (λ e. omega arith) (λ e. omega arith)
+
+pub reach-deep : (ds : List ℕ) (m n : ℕ) → 0 < reachOf ds m n → getD ds (reachOf ds m n - 1) 0 ≤ n
+unfolding reachOf
+reach-deep ds zero n h = absurd (omega arith)
+reach-deep ds (suc k) n h =
+    let e : suc k - 1 ≡ k = omega arith in
+    either (λ r. 0 < r → getD ds (r - 1) 0 ≤ n) (leb (getD ds k 0) n)
+    (λ t l. rw e (leb-true _ _ t)) (λ t l. reach-deep ds k n l) h
+
+pub reach-last : (ds : List ℕ) (m n j : ℕ) → reachOf ds m n < j → j ≤ m → n < getD ds (j - 1) 0
+unfolding reachOf
+reach-last ds zero n j h l = absurd (omega arith)
+reach-last ds (suc k) n j h l =
+    let e : suc k - 1 ≡ k = omega arith in
+    either (λ r. r < j → n < getD ds (j - 1) 0) (leb (getD ds k 0) n)
+    (λ t p. absurd (omega arith))
+    (λ t p. ⊎-elim (λ (q : j ≡ suc k). rw (q, e) (leb-false _ _ t)) (λ (q : j < suc k). reach-last ds k n j p (omega arith)) (eq-or-lt-of-le l))
+    h
+
+pub delay-le : (ds : List ℕ) (m : ℕ) (d : Depth) → delayOf ds m d ≤ m
+unfolding delayOf
+delay-le ds m (Over n) = omega arith
+delay-le ds m (Under n) = reach-le ds m n
+
+pub delay-under : (ds : List ℕ) (m n : ℕ) → delayOf ds m (Under n) ≡ reachOf ds m n
+unfolding delayOf
+delay-under ds m n = refl
+
+pub delay-over : (ds : List ℕ) (m n : ℕ) → delayOf ds m (Over n) ≡ 0
+unfolding delayOf
+delay-over ds m n = refl
+
+-- ---- 5. no more runs off than came, and no less than the storm's
+shallow-le : (g q v n : ℕ) → q ≤ g → shallowOf g q v n ≤ g
+unfolding shallowOf
+shallow-le g q v n h = either (λ r. r ≤ g) (ltb (n * v) (1000 * g)) (λ e. omega arith) (λ e. h)
+
+shallow-ge : (g q v n : ℕ) → q ≤ g → q ≤ shallowOf g q v n
+unfolding shallowOf
+shallow-ge g q v n h =
+    either (λ r. q ≤ r) (ltb (n * v) (1000 * g))
+    (λ e. let t = ltb-true (n * v) (1000 * g) e in omega (arith, share (n * v) (g - q) (1000 * g) (omega arith)))
+    (λ e. omega arith)
+
+pub runoff-le : (g q k v : ℕ) (d : Depth) → q ≤ g → runoffOf g q k v d ≤ g
+unfolding runoffOf
+runoff-le g q k v (Over n) h = omega arith
+runoff-le g q k v (Under n) h = either (λ r. r ≤ g) (eqb k 0) (λ e. shallow-le g q v n h) (λ e. h)
+
+pub runoff-ge : (g q k v : ℕ) (d : Depth) → q ≤ g → q ≤ runoffOf g q k v d
+unfolding runoffOf
+runoff-ge g q k v (Over n) h = h
+runoff-ge g q k v (Under n) h = either (λ r. q ≤ r) (eqb k 0) (λ e. shallow-ge g q v n h) (λ e. omega arith)
+
+-- ---- 7. the lack is at most etmin, and with etvad it does not pass the larger of etvad and etmin
+pub lack-le : (etvad etmin : ℕ) (d : Depth) → lackOf etvad etmin d ≤ etmin
+unfolding lackOf
+lack-le etvad etmin (Over n) = omega arith
+lack-le etvad etmin (Under n) = omega arith
+
+pub lack-most : (etvad etmin : ℕ) (d : Depth) → etvad + lackOf etvad etmin d ≤ max etvad etmin
+unfolding lackOf
+lack-most etvad etmin (Over n) = omega arith
+lack-most etvad etmin (Under n) = omega arith
+
+-- ---- 8. what is taken of the rest is at most the rest
+fading-le : (rest e n : ℕ) → fadingOf rest e n ≤ rest
+unfolding fadingOf
+fading-le rest e n = either (λ r. r ≤ rest) (ltb n e) (λ t. share (e - n) rest e (omega arith)) (λ t. omega arith)
+
+pub etsat-le : (rest e : ℕ) (d : Depth) → etsatOf rest e d ≤ rest
+unfolding etsatOf
+etsat-le rest e (Over n) = omega arith
+etsat-le rest e (Under n) = fading-le rest e n
+
+-- ---- 9. no more drains than stands over the ground
+pub drain-le : (leak : ℕ) (d : Depth) → leak ≤ 1000000 → drainOf leak d ≤ distance d
+unfolding drainOf distance
+drain-le leak (Over n) h = share leak n 1000000 h
+drain-le leak (Under n) h = omega arith
+
+-- ---- 10. F goes one way or the other, and nothing of it is lost; without a delay nothing is stored
+pub split : (k f : ℕ) → storedOf k f + directOf k f ≡ f
+unfolding storedOf directOf
+split k f = go (eqb k 0)
+  where
+    go : (t : Bool) → cond t 0 f + cond t f 0 ≡ f
+    go true = omega arith
+    go false = omega arith
+
+pub none-stored : (k f : ℕ) → k ≡ 0 → storedOf k f ≡ 0
+unfolding storedOf
+none-stored k f e = rw (eq-eqb k 0 e)
+
+-- ---- 11. recharge as one difference, and its size
+pub recharge-is : (a b c d e : ℕ) → rechargeOf a b c d e ≡ pos (a + b + c) -ℤ pos (d + e)
+unfolding rechargeOf
+recharge-is a b c d e = refl
+
+pub recharge-le : (a b c d e n : ℕ) → a + b + c ≤ n → d + e ≤ n → natAbs (rechargeOf a b c d e) ≤ n
+unfolding rechargeOf
+recharge-le a b c d e n h k = abs-minus (a + b + c) (d + e) n h k

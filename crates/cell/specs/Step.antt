@@ -1,0 +1,146 @@
+-- One accepted step of one plot, in document 01's order and with its step numbers; and what a call of the one-row step gives. Definitions only.
+use mathlib.Core.Path.{_≡_}
+use mathlib.Core.List.{List, _∷_, _++_}
+use Prim.Native.Nat.{ℕ, _+_, _-_}
+use lib.IntN.{ℤ}
+use lib.ListN.{drop}
+use Rattle.cell.specs.declared.Amounts.{Amounts}
+use Rattle.cell.specs.declared.Answer.{Answer}
+use Rattle.cell.specs.declared.Answer.the-variants.{Accepted, Refused}
+use Rattle.cell.specs.declared.Card.{Card}
+use Rattle.cell.specs.declared.Depth.{Depth}
+use Rattle.cell.specs.declared.Reading.{Reading}
+use Rattle.cell.specs.declared.ranges.Soil.{Soil}
+use Rattle.cell.specs.declared.checks.Verdict.{Verdict}
+use Rattle.cell.specs.declared.checks.Verdict.the-variants.{Fine, Bad}
+use Rattle.cell.specs.declared.step.Wetting.{Wetting}
+use Rattle.cell.specs.declared.step.Settled.{Settled}
+use Rattle.cell.specs.Water.{water, net}
+use Rattle.cell.specs.Ranges.{soilOf, queueOf}
+use Rattle.cell.specs.Refusals.{verdictOf}
+use Rattle.cell.specs.Queue.{slot, total, shifted, taken, spared, joined}
+use Rattle.cell.specs.Rules.{curveOf, stormOf, delayOf, runoffOf, etvadOf, lackOf, etsatOf, drainOf, storedOf, directOf, rechargeOf}
+
+-- The amounts of a step by their names: of a reading r where the table stands at d. A q is the queue as the step finds it.
+module _ (card : Card) (soil : Soil) (r : Reading) (d : Depth) where
+  -- G = rain + irrig
+  unfoldable pub given : ℕ
+  given = r .rain + r .irrig
+
+  -- 1
+  unfoldable pub release : List ℕ → ℕ
+  release q = slot q 1
+
+  -- 2
+  unfoldable pub curve : ℕ
+  curve = curveOf (soil .cn) (r .amc)
+
+  -- 3
+  unfoldable pub storm : ℕ
+  storm = stormOf curve (r .rain)
+
+  -- 4
+  unfoldable pub delay : ℕ
+  delay = delayOf (card .depths) (card .delays) d
+
+  -- 5
+  unfoldable pub runoff : ℕ
+  runoff = runoffOf given storm delay (soil .vadpor) d
+
+  -- 6
+  unfoldable pub etvad : ℕ
+  etvad = etvadOf given runoff (r .pet) (r .etmin) (r .irrig)
+
+  -- 7, from the queue after the shift
+  unfoldable pub lack : ℕ
+  lack = lackOf etvad (r .etmin) d
+
+  unfoldable pub draws : List ℕ → List ℕ
+  draws q = taken lack (shifted q)
+
+  unfoldable pub etstor : List ℕ → ℕ
+  etstor q = total (draws q)
+
+  -- 8
+  unfoldable pub etsat : List ℕ → ℕ
+  etsat q = etsatOf (r .pet - etvad - etstor q) (soil .etdepth) d
+
+  -- 9
+  unfoldable pub drain : ℕ
+  drain = drainOf (soil .leak) d
+
+  -- 10, F
+  unfoldable pub sunk : ℕ
+  sunk = given - runoff - etvad
+
+  unfoldable pub stored : ℕ
+  stored = storedOf delay sunk
+
+  unfoldable pub direct : ℕ
+  direct = directOf delay sunk
+
+  -- 11
+  unfoldable pub recharge : List ℕ → ℤ
+  recharge q = rechargeOf (release q) direct (r .septic) (etsat q) drain
+
+  -- shift, compute, draw, deposit: the queue as the step leaves it
+  unfoldable pub queueAfter : List ℕ → List ℕ
+  queueAfter q = joined delay stored (spared lack (shifted q))
+
+  -- the ten amounts
+  unfoldable pub stepAmounts : List ℕ → Amounts
+  stepAmounts q =
+      record {
+        inflow = water (given + r .septic);
+        runoff = water runoff;
+        etvad = water etvad;
+        etstor = water (etstor q);
+        etsat = water (etsat q);
+        drain = water drain;
+        release = water (release q);
+        stored = water stored;
+        recharge = net (recharge q);
+        left = water (total (queueAfter q));
+      }
+
+  -- the row as the step leaves it: the reading's life, its count + 1, the queue, and what stood above the queue
+  unfoldable pub rowAfter : List ℕ → List ℕ
+  rowAfter row = r .life ∷ (r .count + 1) ∷ (queueAfter (queueOf (card .delays) row) ++ drop (card .delays) (drop 2 row))
+
+  -- the same in the two parts that the code works out, before the draw and after it
+  unfoldable pub wettingOf : Wetting
+  wettingOf = record { delay = delay; runoff = water runoff; etvad = water etvad; lack = water lack; sunk = water sunk }
+
+-- of what the first part gave, of the release and of what the draw gave
+unfoldable pub settledOf : Soil → Reading → Depth → Wetting → ℕ → ℕ → Settled
+settledOf soil r d w release etstor =
+    let etsat : ℕ = etsatOf (r .pet - w .etvad .0 - etstor) (soil .etdepth) d in
+    let drain : ℕ = drainOf (soil .leak) d in
+    record {
+      etsat = water etsat;
+      drain = water drain;
+      stored = water (storedOf (w .delay) (w .sunk .0));
+      recharge = net (rechargeOf release (directOf (w .delay) (w .sunk .0)) (r .septic) etsat drain);
+    }
+
+-- ---- what a call gives, for every input
+
+-- an answer and a row by the verdict of the checks: accepted with a depth, or refused and the row as it came
+unfoldable pub answerBy : Verdict → (Depth → Amounts) → Answer
+answerBy (Fine d) amounts = Accepted (amounts d)
+answerBy (Bad why) amounts = Refused why
+
+unfoldable pub rowBy : Verdict → (Depth → List ℕ) → List ℕ → List ℕ
+rowBy (Fine d) after row = after d
+rowBy (Bad why) after row = row
+
+unfoldable pub answerOf : Card → List ℤ → List ℕ → Reading → Answer
+answerOf card soil row r = answerBy (verdictOf card soil row r) (λ d. stepAmounts card (soilOf soil) r d (queueOf (card .delays) row))
+
+unfoldable pub newRow : Card → List ℤ → List ℕ → Reading → List ℕ
+newRow card soil row r = rowBy (verdictOf card soil row r) (λ d. rowAfter card (soilOf soil) r d row) row
+
+-- the one-row step: its answer, and the row at exit
+pub record StepGives (card : Card) (soil : List ℤ) (row : List ℕ) (r : Reading) (answer : Answer) (after : List ℕ) : Type 0 where
+  pub answer-is : answer ≡ answerOf card soil row r
+  pub row-is : after ≡ newRow card soil row r

@@ -1,0 +1,83 @@
+// One accepted step of one plot: shift, compute, draw, deposit.
+ghost use mathlib.Core.Path.{_≡_};
+ghost use Prim.Native.Nat.{_+_, _^_, _≤_, _<_};
+ghost use lib.ListN.{length};
+ghost use Rattle.cell.specs.Queue.{total};
+ghost use Rattle.cell.specs.Checked.{Checked, Settling};
+ghost use Rattle.cell.specs.Step.{wettingOf, settledOf, queueAfter, stepAmounts, rowAfter};
+use crate::Amounts;
+use crate::Card;
+use crate::Depth;
+use crate::Net;
+use crate::Reading;
+use crate::Water;
+use crate::queue;
+use crate::ranges::Soil;
+use crate::rules;
+
+// What becomes of the day's water before the plants draw on the queue.
+pub struct Wetting {
+    pub delay: usize,
+    pub runoff: Water,
+    pub etvad: Water,
+    pub lack: Water,
+    pub sunk: Water,
+}
+
+// What the draw leaves to settle.
+pub struct Settled {
+    pub etsat: Water,
+    pub drain: Water,
+    pub stored: Water,
+    pub recharge: Net,
+}
+
+// 2 to 6, the lack of 7 and the F of 10.
+fn wet(card: Card, soil: Soil, r: Reading, d: Depth) -> Wetting
+    requires { ⌜ Checked card soil r d ⌝ }
+    ensures { λ w. ⌜ w ≡ wettingOf card soil r d ⌝ }
+{
+    let rain = Water(r.rain as u64);
+    let irrig = Water(r.irrig as u64);
+    let etmin = Water(r.etmin as u64);
+    let g = Water(rain.0 + irrig.0);
+    let q = rules::storm(rules::curve(soil.cn, r.amc), rain);
+    let k = rules::delay(card, d);
+    let runoff = rules::runoff(g, q, k, soil.vadpor, d);
+    let etvad = rules::etvad(g, runoff, Water(r.pet as u64), etmin, irrig);
+    Wetting {
+        delay: k,
+        runoff: runoff,
+        etvad: etvad,
+        lack: rules::lack(etvad, etmin, d),
+        sunk: Water(g.0 - runoff.0 - etvad.0),
+    }
+}
+
+// 8 to 11.
+fn settle(
+    soil: Soil,
+    r: Reading,
+    d: Depth,
+    w: Wetting,
+    release: Water,
+    etstor: Water,
+) -> Settled
+    requires { ⌜ Settling soil r d w (release .0) (etstor .0) ⌝ }
+    ensures { λ s. ⌜ s ≡ settledOf soil r d w (release .0) (etstor .0) ⌝ }
+{
+    let k = w.delay;
+    let sunk = w.sunk;
+    let etvad = w.etvad;
+    let rest = Water((r.pet as u64) - etvad.0 - etstor.0);
+    let etsat = rules::etsat(rest, soil.etdepth, d);
+    let drain = rules::drain(soil.leak, d);
+    let direct = rules::direct(k, sunk);
+    let recharge = rules::recharge(release, direct, Water(r.septic as u64), etsat, drain);
+    Settled {
+        etsat: etsat,
+        drain: drain,
+        stored: rules::stored(k, sunk),
+        recharge: recharge,
+    }
+}
