@@ -2,3 +2,4 @@
 pub mod Fits
 pub mod Sides
 pub mod Loops
+pub mod Parts

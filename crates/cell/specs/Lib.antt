@@ -13,3 +13,5 @@ pub mod RuleLaws
 pub mod QueueLaws
 pub mod Conj
 pub mod RangeLaws
+pub mod StepLaws
+pub mod CheckLaws

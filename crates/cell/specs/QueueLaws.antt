@@ -4,10 +4,10 @@ use mathlib.Core.Bool.{Bool, true, cond, _&&_, and-eq-true-iff}
 use mathlib.Core.List.{List, [], _∷_, _++_}
 use Prim.Native.Nat.{ℕ, zero, suc, _+_, _-_, _*_, _≤_, _<_, min}
 use native.Mathlib.Omega.{arith}
-use native.Mathlib.Nat.{le-of-suc-le-suc, not-suc-le-zero}
+use native.Mathlib.Nat.{le-of-suc-le-suc, not-suc-le-zero, sub-zero}
 use borrow.Author.Tests.{eq-eqb, ne-eqb, le-leb, leb-true}
 use lib.Dec.{leb, eqb, eqb·suc-suc}
-use lib.ListN.{length, getD, set, length-set, length-append}
+use lib.ListN.{length, getD, take, drop, set, length-set, length-append}
 use Rattle.cell.specs.Ranges.{slotsOk}
 use Rattle.cell.specs.Queue.{slot, total, shifted, taken, spared, joined}
 
@@ -174,3 +174,23 @@ pub joined-in : (m k f : ℕ) (q : List ℕ) → k ≤ m → f ≤ 2000000 → S
 unfolding joined
 joined-in m zero f q l b h = in-up (m - 1) m q (omega arith) h
 joined-in m (suc i) f q l b h = put-in m i f q l b h
+
+-- a first part of the slots, what comes after it, and the two put together
+pub take-in : (m n : ℕ) (q : List ℕ) → SlotsIn m q → SlotsIn m (take n q)
+unfolding SlotsIn
+take-in m zero q h = tt
+take-in m (suc n) [] h = tt
+take-in m (suc n) (s ∷ q) h = (h .0, take-in (m - 1) n q (h .1))
+
+pub drop-in : (m n : ℕ) (q : List ℕ) → SlotsIn m q → SlotsIn (m - n) (drop n q)
+unfolding SlotsIn
+drop-in m zero q h = rw sub-zero h
+drop-in m (suc n) [] h = tt
+drop-in m (suc n) (s ∷ q) h = let e : m - suc n ≡ m - 1 - n = omega arith in rw e (drop-in (m - 1) n q (h .1))
+
+pub append-in : (m n : ℕ) (q q' : List ℕ) → length q ≡ n → SlotsIn m q → SlotsIn (m - n) q' → SlotsIn m (q ++ q')
+unfolding SlotsIn
+append-in m n [] q' l h k = let e : m - n ≡ m = omega arith in rw e at k
+append-in m n (s ∷ q) q' l h k =
+    let e : m - n ≡ m - 1 - length q = omega arith in
+    (h .0, append-in (m - 1) (length q) q q' refl (h .1) (rw e at k))

@@ -67,9 +67,9 @@ unfolding soilOk soilOf
 soil-in s e =
     let at : ℕ → ℤ = λ i. getD s i (pos 0) in
     let p =
-        told (eqb (length s) 5)
-        (within (negsuc 9999999999) (pos 10000000000) (at 0) ∷ within (pos 1) (pos 100000000) (at 1) ∷ within (pos 1) (pos 1000) (at 2)
-        ∷ within (pos 0) (pos 1000000) (at 3) ∷ within (pos 1) (pos 100) (at 4) ∷ []) e in
+    told (eqb (length s) 5)
+    (within (negsuc 9999999999) (pos 10000000000) (at 0) ∷ within (pos 1) (pos 100000000) (at 1) ∷ within (pos 1) (pos 1000) (at 2)
+    ∷ within (pos 0) (pos 1000000) (at 3) ∷ within (pos 1) (pos 100) (at 4) ∷ []) e in
     let a = plain-in 1 100000000 (at 1) (p 2) in
     let b = plain-in 1 1000 (at 2) (p 3) in
     let c = plain-in 0 1000000 (at 3) (p 4) in
@@ -123,9 +123,9 @@ pub fields-in : (r : Reading) → fieldsOk r ≡ true → FieldsIn r
 unfolding fieldsOk
 fields-in r e =
     let p =
-        told (leb (r .life) 65535)
-        (leb (r .count) 999999 ∷ leb (r .rain) 1000000 ∷ leb (r .irrig) 1000000 ∷ leb (r .septic) 1000000 ∷ leb (r .etmin) 1000000
-        ∷ leb (r .pet) 1000000 ∷ leb (r .etmin) (r .pet) ∷ leb 1 (r .amc) ∷ leb (r .amc) 3 ∷ []) e in
+    told (leb (r .life) 65535)
+    (leb (r .count) 999999 ∷ leb (r .rain) 1000000 ∷ leb (r .irrig) 1000000 ∷ leb (r .septic) 1000000 ∷ leb (r .etmin) 1000000
+    ∷ leb (r .pet) 1000000 ∷ leb (r .etmin) (r .pet) ∷ leb 1 (r .amc) ∷ leb (r .amc) 3 ∷ []) e in
     record {
       life = leb-true _ _ (p 0);
       count = leb-true _ _ (p 1);

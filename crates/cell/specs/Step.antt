@@ -15,6 +15,7 @@ use Rattle.cell.specs.declared.checks.Verdict.{Verdict}
 use Rattle.cell.specs.declared.checks.Verdict.the-variants.{Fine, Bad}
 use Rattle.cell.specs.declared.step.Wetting.{Wetting}
 use Rattle.cell.specs.declared.step.Settled.{Settled}
+use Rattle.cell.specs.declared.Water.{Water}
 use Rattle.cell.specs.Water.{water, net}
 use Rattle.cell.specs.Ranges.{soilOf, queueOf}
 use Rattle.cell.specs.Refusals.{verdictOf}
@@ -121,6 +122,22 @@ settledOf soil r d w release etstor =
       drain = water drain;
       stored = water (storedOf (w .delay) (w .sunk .0));
       recharge = net (rechargeOf release (directOf (w .delay) (w .sunk .0)) (r .septic) etsat drain);
+    }
+
+-- the ten amounts of both parts
+unfoldable pub gatheredOf : Reading → Wetting → Settled → Water → Water → Water → Amounts
+gatheredOf r w s release etstor left =
+    record {
+      inflow = water (r .rain + r .irrig + r .septic);
+      runoff = w .runoff;
+      etvad = w .etvad;
+      etstor = etstor;
+      etsat = s .etsat;
+      drain = s .drain;
+      release = release;
+      stored = s .stored;
+      recharge = s .recharge;
+      left = left;
     }
 
 -- ---- what a call gives, for every input

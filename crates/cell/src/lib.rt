@@ -1,13 +1,16 @@
 // The cell rules: what one reading does to one plot.
 ghost use mathlib.Core.Path.{_≡_};
 ghost use Rattle.cell.specs.Ranges.{cardOk};
+ghost use Rattle.cell.specs.Step.{StepGives};
 ghost use Rattle.cell.specs.Refusals.{numberOf, refusalNumber, amountsOf};
 
+mod checks;
+mod queue;
 mod ranges;
 mod rules;
-mod queue;
-mod checks;
 mod step;
+
+use checks::Verdict;
 
 // An amount of water over a cell, in µm.
 pub struct Water(pub u64);
@@ -131,4 +134,15 @@ pub fn card_ok(card: Card) -> bool
     let depths = card.depths;
     let rising = ranges::depths_ok(depths, card.delays);
     (1 <= card.cells) & (card.cells <= 256) & (card.delays <= 30) & rising
+}
+
+// One reading, given to one plot: its card, its five soil numbers, its row. Refused, the row stays as it came.
+pub fn step_row(card: Card, soil: &[i64], row: &mut [u32], r: Reading) -> Answer
+    ensures { λ answer. ⌜ StepGives card (now (soil .entry)) (now (row .entry)) r answer (now (row .exit)) ⌝ }
+{
+    let verdict = checks::judge(card, soil, row, r);
+    match verdict {
+        Verdict::Bad(why) => Answer::Refused(why),
+        Verdict::Fine(d) => Answer::Accepted(step::accept(card, ranges::soil_of(soil), r, d, row)),
+    }
 }

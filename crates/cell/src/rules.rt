@@ -120,13 +120,7 @@ pub fn runoff(g: Water, q: Water, k: usize, vadpor: u64, d: Depth) -> Water
 {
     match d {
         Depth::Over(_) => g,
-        Depth::Under(n) => {
-            if k == 0 {
-                shallow(g, q, vadpor, n)
-            } else {
-                q
-            }
-        }
+        Depth::Under(n) => { if k == 0 { shallow(g, q, vadpor, n) } else { q } }
     }
 }
 

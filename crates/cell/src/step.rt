@@ -1,10 +1,12 @@
 // One accepted step of one plot: shift, compute, draw, deposit.
 ghost use mathlib.Core.Path.{_≡_};
-ghost use Prim.Native.Nat.{_+_, _^_, _≤_, _<_};
 ghost use lib.ListN.{length};
-ghost use Rattle.cell.specs.Queue.{total};
+ghost use mathlib.Core.Bool.{true};
+ghost use Rattle.cell.specs.Ranges.{queueOf, rowOk};
+ghost use Rattle.cell.specs.QueueLaws.{SlotsIn};
 ghost use Rattle.cell.specs.Checked.{Checked, Settling};
-ghost use Rattle.cell.specs.Step.{wettingOf, settledOf, queueAfter, stepAmounts, rowAfter};
+ghost use Prim.Native.Nat.{_≤_};
+ghost use Rattle.cell.specs.Step.{wettingOf, settledOf, gatheredOf, queueAfter, stepAmounts, rowAfter};
 use crate::Amounts;
 use crate::Card;
 use crate::Depth;
@@ -55,14 +57,7 @@ fn wet(card: Card, soil: Soil, r: Reading, d: Depth) -> Wetting
 }
 
 // 8 to 11.
-fn settle(
-    soil: Soil,
-    r: Reading,
-    d: Depth,
-    w: Wetting,
-    release: Water,
-    etstor: Water,
-) -> Settled
+fn settle(soil: Soil, r: Reading, d: Depth, w: Wetting, release: Water, etstor: Water) -> Settled
     requires { ⌜ Settling soil r d w (release .0) (etstor .0) ⌝ }
     ensures { λ s. ⌜ s ≡ settledOf soil r d w (release .0) (etstor .0) ⌝ }
 {
@@ -80,4 +75,65 @@ fn settle(
         stored: rules::stored(k, sunk),
         recharge: recharge,
     }
+}
+
+// Shift, compute, draw, deposit, on the waiting queue.
+fn turn(slots: &mut [u32], card: Card, soil: Soil, r: Reading, d: Depth) -> Amounts
+    requires { ⌜ Checked card soil r d ⌝ ∗ ⌜ length (now slots) ≡ card .delays ⌝ ∗ ⌜ SlotsIn (card .delays) (now slots) ⌝ }
+    ensures { λ a. ⌜ (a ≡ stepAmounts card soil r d (now (slots .entry))) × (now (slots .exit) ≡ queueAfter card soil r d (now (slots .entry))) ⌝ }
+{
+    let release = queue::shift(slots);
+    let w = wet(card, soil, r, d);
+    let lack = w.lack;
+    let etstor = queue::draw(slots, lack);
+    let s = settle(soil, r, d, w, release, etstor);
+    let stored = s.stored;
+    queue::join(slots, w.delay, stored);
+    let left = queue::waiting(slots);
+    gathered(r, w, s, release, etstor, left)
+}
+
+// The ten amounts, from the parts of the step.
+fn gathered(
+    r: Reading,
+    w: Wetting,
+    s: Settled,
+    release: Water,
+    etstor: Water,
+    left: Water,
+) -> Amounts
+    requires { ⌜ (r .rain ≤ 1000000) × (r .irrig ≤ 1000000) × (r .septic ≤ 1000000) ⌝ }
+    ensures { λ a. ⌜ a ≡ gatheredOf r w s release etstor left ⌝ }
+{
+    let inflow = (r.rain as u64) + (r.irrig as u64) + (r.septic as u64);
+    let runoff = w.runoff;
+    let etvad = w.etvad;
+    let etsat = s.etsat;
+    let drain = s.drain;
+    let stored = s.stored;
+    let recharge = s.recharge;
+    Amounts {
+        inflow: Water(inflow),
+        runoff: runoff,
+        etvad: etvad,
+        etstor: etstor,
+        etsat: etsat,
+        drain: drain,
+        release: release,
+        stored: stored,
+        recharge: recharge,
+        left: left,
+    }
+}
+
+// One accepted step of a row: the queue is the part of it after life and next count.
+pub fn accept(card: Card, soil: Soil, r: Reading, d: Depth, row: &mut [u32]) -> Amounts
+    requires { ⌜ Checked card soil r d ⌝ ∗ ⌜ rowOk (card .delays) (now row) ≡ true ⌝ }
+    ensures { λ a. ⌜ (a ≡ stepAmounts card soil r d (queueOf (card .delays) (now (row .entry)))) × (now (row .exit) ≡ rowAfter card soil r d (now (row .entry))) ⌝ }
+{
+    let end = 2 + (card.delays as usize);
+    let amounts = turn(&mut row[2..end], card, soil, r, d);
+    row[0] = r.life;
+    row[1] = r.count + 1;
+    amounts
 }

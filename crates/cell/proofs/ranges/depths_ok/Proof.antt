@@ -9,10 +9,6 @@ use Rattle.cell.specs.Ranges.{depthsOk}
 use Rattle.cell.proofs.Loops.{depths-bad, depths-good, depths-end}
 use Rattle.cell.proofs.ranges.depths_ok.Statement.{statement}
 use Rattle.cell.proofs.ranges.depths_ok.Tie as tie
-use Rattle.cell.proofs.ranges.depths_ok.Reads as reads
-use Rattle.cell.proofs.ranges.depths_ok.Lts as lts
-use Rattle.cell.proofs.ranges.depth_ok.Reads as depth-ok-reads
-use Rattle.cell.proofs.ranges.less.Reads as less-reads
 
 abbrev Inv-loop : tie.InvT-loop
 Inv-loop m depths left₀ before₀ i₀ left before i = (i ≤ 30) × (length depths ≡ 30) × (depthsOk m 0 depths ≡ depthsOk left before (drop i depths))

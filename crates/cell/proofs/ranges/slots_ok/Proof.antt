@@ -8,9 +8,6 @@ use Rattle.cell.specs.Ranges.{slotsOk}
 use Rattle.cell.proofs.Loops.{slots-bad, slots-good, slots-end}
 use Rattle.cell.proofs.ranges.slots_ok.Statement.{statement}
 use Rattle.cell.proofs.ranges.slots_ok.Tie as tie
-use Rattle.cell.proofs.ranges.slots_ok.Reads as reads
-use Rattle.cell.proofs.ranges.slots_ok.Lts as lts
-use Rattle.cell.proofs.ranges.less.Reads as less-reads
 
 abbrev Inv-loop : tie.InvT-loop
 Inv-loop slots m left₀ i₀ left i = (i ≤ length slots) × (left ≤ m) × (slotsOk m slots ≡ slotsOk left (drop i slots))

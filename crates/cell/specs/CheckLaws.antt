@@ -1,0 +1,128 @@
+-- What is known where every check has passed, and what the order of lives and counts lets through. Assumes nothing.
+use mathlib.Core.Path.{_≡_, refl, sym, ap, _∙_}
+use mathlib.Core.Bool.{Bool, true, false, not, _&&_, _||_, and-false}
+use mathlib.Core.Logic.{_⊎_, inl, inr}
+use mathlib.Core.List.{List}
+use Prim.Native.Nat.{ℕ, _≤_, _<_}
+use native.Mathlib.Decide.{ℕ-discrete}
+use native.Mathlib.Omega.{arith}
+use borrow.Author.Tests.{lt-ltb, le-ltb, ltb-false, eq-eqb, ne-eqb, eqb-true, not-true, not-false}
+use lib.Dec.{ltb, eqb}
+use lib.IntN.{ℤ, pos, natAbs}
+use lib.ListN.{getD}
+use Rattle.head.specs.declared.Head.{Head}
+use Rattle.head.specs.declared.Head.the-variants.{Level, Dry, Inactive, Unusable}
+use Rattle.head.specs.Class.{classOf}
+use Rattle.head.specs.Level.{levelUm}
+use Rattle.head.specs.LevelLaws.{level-small}
+use Rattle.cell.specs.declared.Card.{Card}
+use Rattle.cell.specs.declared.Depth.{Depth}
+use Rattle.cell.specs.declared.Reading.{Reading}
+use Rattle.cell.specs.declared.Refusal.{Refusal}
+use Rattle.cell.specs.declared.Refusal.the-variants.{BadCard, BadSoil, BadRow, Old, Gap, BadReading}
+use Rattle.cell.specs.declared.checks.Verdict.{Verdict}
+use Rattle.cell.specs.declared.checks.Verdict.the-variants.{Fine, Bad}
+use Rattle.cell.specs.Checked.{Checked}
+use Rattle.cell.specs.Depth.{distance, depthOf}
+use Rattle.cell.specs.Ranges.{cardOk, soilOk, soilOf, rowOk, fieldsOk, lifeOf, nextOf}
+use Rattle.cell.specs.RangeLaws.{card-in, soil-in, fields-in}
+use Rattle.cell.specs.Refusals.{isOld, isGap, sounded, unless, verdictOf}
+use Rattle.cell.specs.RuleLaws.{depth-le}
+
+-- ---- the checks that a reading has passed where the table stands at d
+pub record Passed (card : Card) (soil : List ℤ) (row : List ℕ) (r : Reading) (d : Depth) : Type 0 where
+  pub card-ok : cardOk card ≡ true
+  pub soil-ok : soilOk soil ≡ true
+  pub row-ok : rowOk (card .delays) row ≡ true
+  pub not-old : isOld (lifeOf row) (nextOf row) r ≡ false
+  pub not-gap : isGap (lifeOf row) (nextOf row) r ≡ false
+  pub fields-ok : fieldsOk r ≡ true
+  pub head-ok : sounded (getD soil 0 (pos 0)) (classOf (r .head)) ≡ Fine d
+
+unless-fine : (b : Bool) (why : Refusal) (v : Verdict) (d : Depth) → unless b why v ≡ Fine d → (b ≡ true) × (v ≡ Fine d)
+unfolding unless
+unless-fine true why v d e = (refl, e)
+unless-fine false why v d e = let z : _≡_ {A = ℕ} 0 1 = cc in absurd (omega arith)
+
+pub passed : (card : Card) (soil : List ℤ) (row : List ℕ) (r : Reading) (d : Depth) → verdictOf card soil row r ≡ Fine d → Passed card soil row r d
+unfolding verdictOf
+passed card soil row r d e =
+    let p1 = unless-fine _ _ _ d e in
+    let p2 = unless-fine _ _ _ d (p1 .1) in
+    let p3 = unless-fine _ _ _ d (p2 .1) in
+    let p4 = unless-fine _ _ _ d (p3 .1) in
+    let p5 = unless-fine _ _ _ d (p4 .1) in
+    let p6 = unless-fine _ _ _ d (p5 .1) in
+    record { card-ok = p1 .0; soil-ok = p2 .0; row-ok = p3 .0; not-old = not-true _ (p4 .0); not-gap = not-true _ (p5 .0); fields-ok = p6 .0; head-ok = p6 .1 }
+
+-- a head that passes lies within 20,000,000,000 of a top in range
+sounded-le : (top : ℤ) (h : Head) (d : Depth) → natAbs top ≤ 10000000000 → sounded top h ≡ Fine d → distance d ≤ 20000000000
+unfolding sounded distance
+sounded-le top (Level x) d t e = let f : depthOf top (levelUm x) ≡ d = cc in rw (← f) (depth-le top (levelUm x) t (level-small x))
+sounded-le top Dry d t e = let f : Depth.Under 20000000000 ≡ d = cc in rw (← f) (omega arith)
+sounded-le top Inactive d t e = let z : _≡_ {A = ℕ} 0 1 = cc in absurd (omega arith)
+sounded-le top Unusable d t e = let z : _≡_ {A = ℕ} 0 1 = cc in absurd (omega arith)
+
+pub checked : (card : Card) (soil : List ℤ) (row : List ℕ) (r : Reading) (d : Depth) → Passed card soil row r d → Checked card (soilOf soil) r d
+checked card soil row r d p =
+    let c = card-in card (p .card-ok) in
+    let s = soil-in soil (p .soil-ok) in
+    let f = fields-in r (p .fields-ok) in
+    record {
+      delays = c .delays;
+      etdepth = s .etdepth;
+      vadpor = s .vadpor;
+      leak = s .leak;
+      cn-low = s .cn-low;
+      cn-high = s .cn;
+      life = f .life;
+      count = f .count;
+      rain = f .rain;
+      irrig = f .irrig;
+      septic = f .septic;
+      pet = f .pet;
+      etmin = f .etmin;
+      depth = sounded-le (getD soil 0 (pos 0)) (classOf (r .head)) d (s .top) (p .head-ok);
+    }
+
+-- ---- a reading is in order if it goes on with the row's life at its next count, or starts a higher life at 0
+abbrev pub InOrder : ℕ → ℕ → Reading → Type 0
+InOrder life next r = ((r .life ≡ life) × (r .count ≡ next)) ⊎ ((life < r .life) × (r .count ≡ 0))
+
+or-off : (a b : Bool) → (a || b) ≡ false → (a ≡ false) × (b ≡ false)
+or-off true b e = let z : _≡_ {A = ℕ} 0 1 = cc in absurd (omega arith)
+or-off false b e = (refl, e)
+
+and-off : (a b : Bool) → a ≡ true → (a && b) ≡ false → b ≡ false
+and-off true b p e = e
+and-off false b p e = let z : _≡_ {A = ℕ} 0 1 = cc in absurd (omega arith)
+
+-- neither old nor a gap: in order, and the other way round
+pub in-order : (life next : ℕ) (r : Reading) → isOld life next r ≡ false → isGap life next r ≡ false → InOrder life next r
+unfolding isOld isGap
+in-order life next r o g = go (ℕ-discrete (r .life) life)
+  where
+    p : (ltb (r .life) life ≡ false) × ((eqb (r .life) life && ltb (r .count) next) ≡ false)
+    p = or-off (ltb (r .life) life) (eqb (r .life) life && ltb (r .count) next) o
+
+    q : ((eqb (r .life) life && ltb next (r .count)) ≡ false) × ((ltb life (r .life) && not (eqb (r .count) 0)) ≡ false)
+    q = or-off (eqb (r .life) life && ltb next (r .count)) (ltb life (r .life) && not (eqb (r .count) 0)) g
+
+    go : Dec (r .life ≡ life) → InOrder life next r
+    go (yes e) =
+        let a : next ≤ r .count = ltb-false _ _ (and-off (eqb (r .life) life) (ltb (r .count) next) (eq-eqb _ _ e) (p .1)) in
+        let b : r .count ≤ next = ltb-false _ _ (and-off (eqb (r .life) life) (ltb next (r .count)) (eq-eqb _ _ e) (q .0)) in
+        inl (e, omega arith)
+    go (no n) =
+        let l : life < r .life = omega (arith, ltb-false (r .life) life (p .0)) in
+        inr (l, eqb-true _ _ (not-false _ (and-off (ltb life (r .life)) (not (eqb (r .count) 0)) (lt-ltb _ _ l) (q .1))))
+
+pub order-old : (life next : ℕ) (r : Reading) → InOrder life next r → isOld life next r ≡ false
+unfolding isOld
+order-old life next r (inl e) = simp (le-ltb (r .life) life (omega arith), le-ltb (r .count) next (omega arith), and-false)
+order-old life next r (inr e) = simp (le-ltb (r .life) life (omega arith), ne-eqb (r .life) life (λ i. omega arith))
+
+pub order-gap : (life next : ℕ) (r : Reading) → InOrder life next r → isGap life next r ≡ false
+unfolding isGap
+order-gap life next r (inl e) = simp (le-ltb next (r .count) (omega arith), le-ltb life (r .life) (omega arith), and-false)
+order-gap life next r (inr e) = simp (ne-eqb (r .life) life (λ i. omega arith), eq-eqb (r .count) 0 (e .1), and-false)
