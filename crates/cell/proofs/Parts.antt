@@ -14,10 +14,10 @@ use Rattle.cell.specs.declared.step.Wetting.{Wetting}
 use Rattle.cell.specs.declared.step.Settled.{Settled}
 use Rattle.cell.specs.Water.{water}
 use Rattle.cell.specs.Ranges.{queueOf}
-use Rattle.cell.specs.Checked.{Checked, Settling}
+use Rattle.cell.specs.Parts.{Checked, wettingOf, Settling, settledOf, gatheredOf}
 use Rattle.cell.specs.Queue.{slot, total, shifted, taken, spared, joined}
 use Rattle.cell.specs.QueueLaws.{SlotsIn, total-in, total-shifted, total-spared, length-shifted, length-spared}
-use Rattle.cell.specs.Step.{given, release, delay, lack, draws, etstor, etsat, drain, sunk, stored, direct, recharge, queueAfter, stepAmounts, wettingOf, settledOf, gatheredOf}
+use Rattle.cell.specs.Step.{given, release, delay, lack, draws, etstor, etsat, drain, sunk, stored, direct, recharge, queueAfter, stepAmounts}
 use Rattle.cell.specs.StepLaws.{delay-most, lack-pet, sunk-most, stored-most, etstor-lack, after-length, release-most, after-in}
 
 module _ (card : Card) (soil : Soil) (r : Reading) (d : Depth) (h : Checked card soil r d) (q : List ℕ) (long : length q ≡ card .delays) (inside : SlotsIn (card .delays) q) where

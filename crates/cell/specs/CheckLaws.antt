@@ -22,7 +22,7 @@ use Rattle.cell.specs.declared.Refusal.{Refusal}
 use Rattle.cell.specs.declared.Refusal.the-variants.{BadCard, BadSoil, BadRow, Old, Gap, BadReading}
 use Rattle.cell.specs.declared.checks.Verdict.{Verdict}
 use Rattle.cell.specs.declared.checks.Verdict.the-variants.{Fine, Bad}
-use Rattle.cell.specs.Checked.{Checked}
+use Rattle.cell.specs.Parts.{Checked}
 use Rattle.cell.specs.Depth.{distance, depthOf}
 use Rattle.cell.specs.Ranges.{cardOk, soilOk, soilOf, rowOk, fieldsOk, lifeOf, nextOf}
 use Rattle.cell.specs.RangeLaws.{card-in, soil-in, fields-in}

@@ -1,4 +1,4 @@
--- The cell rules, in the order of document 01: ranges, refusals, the depth, the queue, the rules of an accepted step, the step.
+-- The cell rules, in the order of document 01: ranges, refusals, the depth, the queue, the rules of an accepted step, the step, its cases.
 pub mod Water
 pub mod Ranges
 pub mod Depth
@@ -6,12 +6,16 @@ pub mod Refusals
 pub mod Queue
 pub mod Rules
 pub mod Step
-pub mod Checked
--- laws of these, for the callers
-pub mod Bounds
-pub mod RuleLaws
-pub mod QueueLaws
-pub mod Conj
+pub mod Cases
+-- laws of these, for the crates above
 pub mod RangeLaws
-pub mod StepLaws
 pub mod CheckLaws
+pub mod QueueLaws
+pub mod RuleLaws
+pub mod StepLaws
+pub mod AnswerLaws
+-- what the laws and the code's own contracts lean on
+pub mod Parts
+pub mod Bounds
+pub mod Conj
+pub mod Table

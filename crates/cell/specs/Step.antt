@@ -13,9 +13,6 @@ use Rattle.cell.specs.declared.Reading.{Reading}
 use Rattle.cell.specs.declared.ranges.Soil.{Soil}
 use Rattle.cell.specs.declared.checks.Verdict.{Verdict}
 use Rattle.cell.specs.declared.checks.Verdict.the-variants.{Fine, Bad}
-use Rattle.cell.specs.declared.step.Wetting.{Wetting}
-use Rattle.cell.specs.declared.step.Settled.{Settled}
-use Rattle.cell.specs.declared.Water.{Water}
 use Rattle.cell.specs.Water.{water, net}
 use Rattle.cell.specs.Ranges.{soilOf, queueOf}
 use Rattle.cell.specs.Refusals.{verdictOf}
@@ -107,38 +104,6 @@ module _ (card : Card) (soil : Soil) (r : Reading) (d : Depth) where
   -- the row as the step leaves it: the reading's life, its count + 1, the queue, and what stood above the queue
   unfoldable pub rowAfter : List ℕ → List ℕ
   rowAfter row = r .life ∷ (r .count + 1) ∷ (queueAfter (queueOf (card .delays) row) ++ drop (card .delays) (drop 2 row))
-
-  -- the same in the two parts that the code works out, before the draw and after it
-  unfoldable pub wettingOf : Wetting
-  wettingOf = record { delay = delay; runoff = water runoff; etvad = water etvad; lack = water lack; sunk = water sunk }
-
--- of what the first part gave, of the release and of what the draw gave
-unfoldable pub settledOf : Soil → Reading → Depth → Wetting → ℕ → ℕ → Settled
-settledOf soil r d w release etstor =
-    let etsat : ℕ = etsatOf (r .pet - w .etvad .0 - etstor) (soil .etdepth) d in
-    let drain : ℕ = drainOf (soil .leak) d in
-    record {
-      etsat = water etsat;
-      drain = water drain;
-      stored = water (storedOf (w .delay) (w .sunk .0));
-      recharge = net (rechargeOf release (directOf (w .delay) (w .sunk .0)) (r .septic) etsat drain);
-    }
-
--- the ten amounts of both parts
-unfoldable pub gatheredOf : Reading → Wetting → Settled → Water → Water → Water → Amounts
-gatheredOf r w s release etstor left =
-    record {
-      inflow = water (r .rain + r .irrig + r .septic);
-      runoff = w .runoff;
-      etvad = w .etvad;
-      etstor = etstor;
-      etsat = s .etsat;
-      drain = s .drain;
-      release = release;
-      stored = s .stored;
-      recharge = s .recharge;
-      left = left;
-    }
 
 -- ---- what a call gives, for every input
 

@@ -12,7 +12,7 @@ use Rattle.cell.specs.declared.Card.{Card}
 use Rattle.cell.specs.declared.Depth.{Depth}
 use Rattle.cell.specs.declared.Reading.{Reading}
 use Rattle.cell.specs.declared.ranges.Soil.{Soil}
-use Rattle.cell.specs.Checked.{Checked}
+use Rattle.cell.specs.Parts.{Checked}
 use Rattle.cell.specs.Depth.{distance}
 use Rattle.cell.specs.Ranges.{queueOf, slotsOf, rowOk, lifeOf, nextOf}
 use Rattle.cell.specs.RangeLaws.{RowIn, row-in, row-ok}

@@ -1,6 +1,6 @@
 -- `cell::step::gathered` meets its contract. Assumes nothing.
 use mathlib.Core.Path.{_≡_, refl, sym, ap, _∙_}
-use Rattle.cell.specs.Step.{gatheredOf}
+use Rattle.cell.specs.Parts.{gatheredOf}
 use borrow.Author.Needs.{needs}
 use Rattle.cell.proofs.step.gathered.Statement.{statement}
 use Rattle.cell.proofs.step.gathered.Tie as tie

@@ -9,7 +9,7 @@ use Rattle.cell.specs.declared.step.Wetting.{Wetting}
 use Rattle.cell.specs.declared.step.Settled.{Settled}
 use Rattle.cell.specs.Water.{water, net}
 use Rattle.cell.specs.Rules.{etsatOf, drainOf, storedOf, directOf, rechargeOf}
-use Rattle.cell.specs.Step.{settledOf}
+use Rattle.cell.specs.Parts.{settledOf}
 use borrow.Author.Needs.{needs}
 use Rattle.cell.proofs.step.settle.Statement.{statement}
 use Rattle.cell.proofs.step.settle.Tie as tie

@@ -8,7 +8,8 @@ use Rattle.cell.specs.declared.ranges.Soil.{Soil}
 use Rattle.cell.specs.declared.step.Wetting.{Wetting}
 use Rattle.cell.specs.Water.{water}
 use Rattle.cell.specs.Rules.{curveOf, stormOf, delayOf, runoffOf, etvadOf, lackOf}
-use Rattle.cell.specs.Step.{given, curve, storm, delay, runoff, etvad, lack, sunk, wettingOf}
+use Rattle.cell.specs.Step.{given, curve, storm, delay, runoff, etvad, lack, sunk}
+use Rattle.cell.specs.Parts.{wettingOf}
 use borrow.Author.Needs.{needs}
 use Rattle.cell.proofs.step.wet.Statement.{statement}
 use Rattle.cell.proofs.step.wet.Tie as tie

@@ -1,0 +1,118 @@
+-- Laws of the answer and of the row that a call of the one-row step gives: what the crates above cite, so that they open no definition here. Assumes nothing.
+use mathlib.Core.Path.{_≡_, refl, sym, ap, _∙_}
+use mathlib.Core.Bool.{true}
+use mathlib.Core.List.{List}
+use Prim.Native.Nat.{ℕ, _+_, _*_, _≤_}
+use native.Mathlib.Omega.{arith}
+use lib.IntN.{ℤ, natAbs}
+use lib.ListN.{length}
+use Rattle.cell.specs.declared.Amounts.{Amounts}
+use Rattle.cell.specs.declared.Answer.{Answer}
+use Rattle.cell.specs.declared.Answer.the-variants.{Accepted, Refused}
+use Rattle.cell.specs.declared.Card.{Card}
+use Rattle.cell.specs.declared.Depth.{Depth}
+use Rattle.cell.specs.declared.Reading.{Reading}
+use Rattle.cell.specs.declared.Refusal.{Refusal}
+use Rattle.cell.specs.declared.checks.Verdict.{Verdict}
+use Rattle.cell.specs.declared.checks.Verdict.the-variants.{Fine, Bad}
+use Rattle.cell.specs.Ranges.{soilOf, queueOf, rowOk, lifeOf, nextOf}
+use Rattle.cell.specs.Refusals.{verdictOf}
+use Rattle.cell.specs.CheckLaws.{Passed, passed, checked, InOrder, in-order}
+use Rattle.cell.specs.Parts.{Checked}
+use Rattle.cell.specs.Queue.{total}
+use Rattle.cell.specs.QueueLaws.{total-in}
+use Rattle.cell.specs.Step.{given, release, runoff, etvad, etstor, etsat, drain, stored, direct, recharge, queueAfter, stepAmounts, rowAfter, answerBy, rowBy, answerOf, newRow}
+use Rattle.cell.specs.StepLaws.{given-most, runoff-given, etvad-pet, plants-pet, drain-most, stored-most, release-most, recharge-most, after-in, after-length, queue-in, queue-length, row-life, row-next, row-kept, row-length}
+
+-- the range of each amount
+pub record AmountsIn (a : Amounts) : Type 0 where
+  pub inflow : a .inflow .0 ≤ 3000000
+  pub runoff : a .runoff .0 ≤ 2000000
+  pub plants : a .etvad .0 + a .etstor .0 + a .etsat .0 ≤ 1000000
+  pub drain : a .drain .0 ≤ 20000000000
+  pub release : a .release .0 ≤ 60000000
+  pub stored : a .stored .0 ≤ 2000000
+  pub recharge : natAbs (a .recharge .0) ≤ 30000000000
+  pub left : a .left .0 ≤ 1800000000
+
+-- an accepted call: the depth that the checks found, and the step that was taken there
+pub record Taken (card : Card) (soil : List ℤ) (row : List ℕ) (r : Reading) (a : Amounts) : Type 0 where
+  pub depth : Depth
+  pub checks : Passed card soil row r depth
+  pub ranges : Checked card (soilOf soil) r depth
+  pub amounts-are : a ≡ stepAmounts card (soilOf soil) r depth (queueOf (card .delays) row)
+  pub row-is : newRow card soil row r ≡ rowAfter card (soilOf soil) r depth row
+
+module _ (card : Card) (soil : List ℤ) (row : List ℕ) (r : Reading) where
+  -- refused, the row is as it came
+  pub stays : (why : Refusal) → answerOf card soil row r ≡ Refused why → newRow card soil row r ≡ row
+  unfolding answerOf newRow answerBy rowBy
+  stays why e = go (verdictOf card soil row r) e
+    where
+      go : (v : Verdict) → answerBy v (λ d. stepAmounts card (soilOf soil) r d (queueOf (card .delays) row)) ≡ Refused why → rowBy v (λ d. rowAfter card (soilOf soil) r d row) row ≡ row
+      go (Fine d) f = let z : _≡_ {A = ℕ} 0 1 = cc in absurd (omega arith)
+      go (Bad b) f = refl
+
+  pub taken : (a : Amounts) → answerOf card soil row r ≡ Accepted a → Taken card soil row r a
+  unfolding answerOf newRow answerBy rowBy
+  taken a e = go (verdictOf card soil row r) refl
+    where
+      go : (v : Verdict) → verdictOf card soil row r ≡ v → Taken card soil row r a
+      go (Fine d) f =
+          let p = passed card soil row r d f in
+          let s : Accepted (stepAmounts card (soilOf soil) r d (queueOf (card .delays) row)) ≡ Accepted a = rw f at e in
+          record { depth = d; checks = p; ranges = checked card soil row r d p; amounts-are = cc; row-is = rw f }
+      go (Bad b) f =
+          let s : Refused b ≡ Accepted a = rw f at e in
+          let z : _≡_ {A = ℕ} 0 1 = cc in
+          absurd (omega arith)
+
+  -- of an accepted call
+  module _ (a : Amounts) (e : answerOf card soil row r ≡ Accepted a) where
+    t : Taken card soil row r a
+    t = taken a e
+
+    -- the reading went on with the row's life at its next count, or started a higher life at 0
+    pub was-in-order : InOrder (lifeOf row) (nextOf row) r
+    was-in-order = in-order (lifeOf row) (nextOf row) r (t .checks .not-old) (t .checks .not-gap)
+
+    -- the row has the reading's life and its count + 1
+    pub life-after : lifeOf (newRow card soil row r) ≡ r .life
+    life-after = rw (t .row-is) (row-life card (soilOf soil) r (t .depth) (t .ranges) row (t .checks .row-ok))
+
+    pub next-after : nextOf (newRow card soil row r) ≡ r .count + 1
+    next-after = rw (t .row-is) (row-next card (soilOf soil) r (t .depth) (t .ranges) row (t .checks .row-ok))
+
+    -- a row in range stays in range
+    pub range-after : rowOk (card .delays) (newRow card soil row r) ≡ true
+    range-after = rw (t .row-is) (row-kept card (soilOf soil) r (t .depth) (t .ranges) row (t .checks .row-ok))
+
+    pub length-after : length (newRow card soil row r) ≡ 32
+    length-after = rw (t .row-is) (row-length card (soilOf soil) r (t .depth) (t .ranges) row (t .checks .row-ok))
+
+    -- each amount is in its range
+    pub amounts-in : AmountsIn a
+    unfolding stepAmounts
+    amounts-in =
+        let h = t .ranges in
+        let d = t .depth in
+        let s = soilOf soil in
+        let q = queueOf (card .delays) row in
+        let w = queue-in card s r d h row (t .checks .row-ok) in
+        rw (t .amounts-are) (record {
+          inflow = omega (arith, given-most card s r d h, h .septic);
+          runoff = omega (arith, runoff-given card s r d h, given-most card s r d h);
+          plants = omega (arith, plants-pet card s r d h q, h .pet);
+          drain = drain-most card s r d h;
+          release = release-most card s r d h q w;
+          stored = stored-most card s r d h;
+          recharge = recharge-most card s r d h q w;
+          left =
+              omega (
+                arith,
+                total-in (card .delays) (queueAfter card s r d q) (h .delays) (after-in card s r d h q w),
+                after-length card s r d h q,
+                queue-length card s r d h row (t .checks .row-ok),
+                h .delays,
+              );
+        })
