@@ -1,6 +1,6 @@
 -- Laws of the answer and of the row that a call of the one-row step gives: what the crates above cite, so that they open no definition here. Assumes nothing.
 use mathlib.Core.Path.{_≡_, refl, sym, ap, _∙_}
-use mathlib.Core.Bool.{true}
+use mathlib.Core.Bool.{true, false}
 use mathlib.Core.List.{List}
 use Prim.Native.Nat.{ℕ, _+_, _*_, _≤_}
 use native.Mathlib.Omega.{arith}
@@ -13,11 +13,12 @@ use Rattle.cell.specs.declared.Card.{Card}
 use Rattle.cell.specs.declared.Depth.{Depth}
 use Rattle.cell.specs.declared.Reading.{Reading}
 use Rattle.cell.specs.declared.Refusal.{Refusal}
+use Rattle.cell.specs.declared.Refusal.the-variants.{BadCard}
 use Rattle.cell.specs.declared.checks.Verdict.{Verdict}
 use Rattle.cell.specs.declared.checks.Verdict.the-variants.{Fine, Bad}
-use Rattle.cell.specs.Ranges.{soilOf, queueOf, rowOk, lifeOf, nextOf}
+use Rattle.cell.specs.Ranges.{cardOk, soilOf, queueOf, rowOk, lifeOf, nextOf}
 use Rattle.cell.specs.Refusals.{verdictOf}
-use Rattle.cell.specs.CheckLaws.{Passed, passed, checked, InOrder, in-order}
+use Rattle.cell.specs.CheckLaws.{Passed, passed, verdict-card, checked, InOrder, in-order}
 use Rattle.cell.specs.Parts.{Checked}
 use Rattle.cell.specs.Queue.{total}
 use Rattle.cell.specs.QueueLaws.{total-in}
@@ -52,6 +53,11 @@ module _ (card : Card) (soil : List ℤ) (row : List ℕ) (r : Reading) where
       go : (v : Verdict) → answerBy v (λ d. stepAmounts card (soilOf soil) r d (queueOf (card .delays) row)) ≡ Refused why → rowBy v (λ d. rowAfter card (soilOf soil) r d row) row ≡ row
       go (Fine d) f = let z : _≡_ {A = ℕ} 0 1 = cc in absurd (omega arith)
       go (Bad b) f = refl
+
+  -- a bad card is refused with 1, whatever else is wrong
+  pub bad-card : cardOk card ≡ false → answerOf card soil row r ≡ Refused BadCard
+  unfolding answerOf answerBy
+  bad-card e = rw (verdict-card card soil row r e)
 
   pub taken : (a : Amounts) → answerOf card soil row r ≡ Accepted a → Taken card soil row r a
   unfolding answerOf newRow answerBy rowBy

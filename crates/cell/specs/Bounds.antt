@@ -6,7 +6,7 @@ use native.Mathlib.Nat.{mul-le-mul-right, div-le-of-le-mul}
 use native.Mathlib.Omega.{arith}
 use borrow.Author.Tests.{ltb-true}
 use lib.Dec.{ltb}
-use lib.IntN.{ℤ, pos, negsuc, subℕ, natAbs, _-ℤ_}
+use lib.IntN.{ℤ, pos, negsuc, subℕ, natAbs, _+ℤ_, _-ℤ_}
 
 -- a b / c ≤ b where a ≤ c
 pub share : (a b c : ℕ) → a ≤ c → a * b / c ≤ b
@@ -37,3 +37,10 @@ abs-sub (pos a) (negsuc b) n m h k = omega arith
 abs-sub (negsuc a) (pos zero) n m h k = sub-abs zero (suc a) (n + m) (omega arith) (omega arith)
 abs-sub (negsuc a) (pos (suc b)) n m h k = omega arith
 abs-sub (negsuc a) (negsuc b) n m h k = sub-abs (suc b) (suc a) (n + m) (omega arith) (omega arith)
+
+-- and so is that of a sum
+pub abs-add : (x y : ℤ) (n m : ℕ) → natAbs x ≤ n → natAbs y ≤ m → natAbs (x +ℤ y) ≤ n + m
+abs-add (pos a) (pos b) n m h k = omega arith
+abs-add (pos a) (negsuc b) n m h k = sub-abs a (suc b) (n + m) (omega arith) (omega arith)
+abs-add (negsuc a) (pos b) n m h k = sub-abs b (suc a) (n + m) (omega arith) (omega arith)
+abs-add (negsuc a) (negsuc b) n m h k = omega arith

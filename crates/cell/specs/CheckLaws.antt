@@ -55,6 +55,11 @@ passed card soil row r d e =
     let p6 = unless-fine _ _ _ d (p5 .1) in
     record { card-ok = p1 .0; soil-ok = p2 .0; row-ok = p3 .0; not-old = not-true _ (p4 .0); not-gap = not-true _ (p5 .0); fields-ok = p6 .0; head-ok = p6 .1 }
 
+-- check 1 comes first
+pub verdict-card : (card : Card) (soil : List ℤ) (row : List ℕ) (r : Reading) → cardOk card ≡ false → verdictOf card soil row r ≡ Bad BadCard
+unfolding verdictOf unless
+verdict-card card soil row r e = rw e
+
 -- a head that passes lies within 20,000,000,000 of a top in range
 sounded-le : (top : ℤ) (h : Head) (d : Depth) → natAbs top ≤ 10000000000 → sounded top h ≡ Fine d → distance d ≤ 20000000000
 unfolding sounded distance

@@ -1,0 +1,179 @@
+-- `site::step` meets its contract. Refused by check 2 or 3, or what the named row gives, put back in its place. Assumes nothing.
+use native.Mathlib.Omega.{arith}
+use mathlib.Core.Path.{_≡_, refl, sym, ap, _∙_}
+use mathlib.Core.Bool.{Bool, true, false, _&&_}
+use mathlib.Core.List.{List, _++_}
+use Prim.Native.Nat.{ℕ, _+_, _-_, _*_, _≤_, _<_}
+use native.Mathlib.Nat.{mul-le-mul-left}
+use borrow.Author.Tests.{eq-eqb, ne-eqb, lt-ltb, le-ltb}
+use borrow.Rule.Slice.PartMut.{putMid, post-is}
+use lib.IntN.{ℤ}
+use lib.ListN.{length, take, drop}
+use Rattle.cell.specs.declared.Answer.{Answer}
+use Rattle.cell.specs.declared.Card.{Card}
+use Rattle.cell.specs.declared.Reading.{Reading}
+use Rattle.cell.specs.Step.{StepGives, newRow}
+use Rattle.site.specs.Rows.{partAt, putAt}
+use Rattle.site.specs.Site.{soilFits, rowsFit, cellFits, SiteGives}
+use Rattle.site.specs.SiteLaws.{lengths-bad, cell-bad, reached, rows-reached, refused-gives}
+use borrow.Author.Needs.{needs}
+use Rattle.site.proofs.step.Statement.{statement}
+use Rattle.site.proofs.step.Tie as tie
+use Rattle.site.proofs.step.Reads as reads
+use Rattle.site.proofs.step.Lts as lts
+use Rattle.cell.proofs.step_row.Reads as step-row-reads
+use Rattle.site.proofs.refused.Reads as refused-reads
+
+-- the tests of the code are those of checks 2 and 3
+module _ (card : Card) (soil : List ℤ) (rows : List ℕ) where
+  soil-off : ¬ (length soil ≡ 5 * card .cells) → (soilFits card soil && rowsFit card rows) ≡ false
+  unfolding soilFits
+  soil-off n = rw (ne-eqb _ _ n)
+
+  rows-off : length soil ≡ 5 * card .cells → ¬ (length rows ≡ 32 * card .cells) → (soilFits card soil && rowsFit card rows) ≡ false
+  unfolding soilFits rowsFit
+  rows-off e n = rw (eq-eqb _ _ e, ne-eqb _ _ n)
+
+  both-fit : length soil ≡ 5 * card .cells → length rows ≡ 32 * card .cells → (soilFits card soil && rowsFit card rows) ≡ true
+  unfolding soilFits rowsFit
+  both-fit e f = rw (eq-eqb _ _ e, eq-eqb _ _ f)
+
+cell-off : (card : Card) (r : Reading) → card .cells ≤ r .cell → cellFits card r ≡ false
+unfolding cellFits
+cell-off card r h = le-ltb _ _ h
+
+cell-on : (card : Card) (r : Reading) → r .cell < card .cells → cellFits card r ≡ true
+unfolding cellFits
+cell-on card r h = lt-ltb _ _ h
+
+-- what the named row gave, put back in its place
+module _ (card : Card) (soil : List ℤ) (rows : List ℕ) (r : Reading) (e : (soilFits card soil && rowsFit card rows) ≡ true) (f : cellFits card r ≡ true) where
+  given : (answer : Answer) (after : List ℕ)
+      → StepGives card (take (5 * r .cell + 5 - 5 * r .cell) (drop (5 * r .cell) soil)) (take (32 * r .cell + 32 - 32 * r .cell) (drop (32 * r .cell) rows)) r answer after
+      → SiteGives card soil rows r answer (putMid (32 * r .cell) (32 * r .cell + 32 - 32 * r .cell) rows after)
+  unfolding partAt putAt
+  given answer after g =
+      let s : 5 * r .cell + 5 - 5 * r .cell ≡ 5 = omega arith in
+      let w : 32 * r .cell + 32 - 32 * r .cell ≡ 32 = omega arith in
+      let h : StepGives card (partAt 5 (r .cell) soil) (partAt 32 (r .cell) rows) r answer after = rw (s, w) at g in
+      record {
+        answer-is = h .answer-is ∙ sym (reached card soil rows r e f);
+        rows-are =
+            ap (λ (t : List ℕ). take (32 * r .cell) rows ++ (after ++ t)) (post-is (32 * r .cell) (32 * r .cell + 32) rows (omega arith))
+            ∙ ap (λ (t : List ℕ). putAt 32 (r .cell) t rows) (h .row-is)
+            ∙ sym (rows-reached card soil rows r e f);
+      }
+
+cast-cells : tie.Need-cast-cells
+cast-cells c = search needs
+
+cast-cell : tie.Need-cast-cell
+cast-cell c = search needs
+
+mul-if1 : tie.Need-mul-if1
+mul-if1 c = search needs
+
+refused-requires : tie.Need-refused-requires
+refused-requires c κs = search needs
+
+returns : tie.Need-returns
+returns c =
+    let a = c .before .before .before .before .before .args in
+    rw (c .refused .ensures) (refused-gives (a .card) (a .soil .now) (a .rows .now) (a .r) _ (lengths-bad (a .card) (a .soil .now) (a .rows .now) (a .r) (soil-off _ _ _ (c .before .if1 .taken))))
+
+mul-if2 : tie.Need-mul-if2
+mul-if2 c = search needs
+
+refused-requires-2 : tie.Need-refused-requires-2
+refused-requires-2 c κs = search needs
+
+returns-2 : tie.Need-returns-2
+returns-2 c =
+    let a = c .before .before .before .before .before .before .args in
+    rw (c .refused2 .ensures) (refused-gives (a .card) (a .soil .now) (a .rows .now) (a .r) _ (lengths-bad (a .card) (a .soil .now) (a .rows .now) (a .r) (rows-off _ _ _ (c .before .before .if1 .left) (c .before .if2 .taken))))
+
+refused-requires-3 : tie.Need-refused-requires-3
+refused-requires-3 c κs = search needs
+
+returns-3 : tie.Need-returns-3
+returns-3 c =
+    let a = c .before .before .before .before .before .before .before .args in
+    rw (c .refused3 .ensures) (refused-gives (a .card) (a .soil .now) (a .rows .now) (a .r) _ (cell-bad (a .card) (a .soil .now) (a .rows .now) (a .r) (both-fit _ _ _ (c .before .before .before .if1 .left) (c .before .before .if2 .left)) (cell-off _ _ (c .before .if3 .taken))))
+
+mul-s : tie.Need-mul-s
+mul-s c = search needs
+
+add-s-end : tie.Need-add-s-end
+add-s-end c = search needs
+
+mul-w : tie.Need-mul-w
+mul-w c = search needs
+
+add-w-end : tie.Need-add-w-end
+add-w-end c = search needs
+
+mul-step-row : tie.Need-mul-step-row
+mul-step-row c = search needs
+
+sub-step-row : tie.Need-sub-step-row
+sub-step-row c = search needs
+
+part-step-row-start : tie.Need-part-step-row-start
+part-step-row-start c = search needs
+
+part-step-row-end : tie.Need-part-step-row-end
+part-step-row-end c = omega arith
+
+mul-step-row-2 : tie.Need-mul-step-row-2
+mul-step-row-2 c = search needs
+
+sub-step-row-2 : tie.Need-sub-step-row-2
+sub-step-row-2 c = search needs
+
+part-step-row-start-2 : tie.Need-part-step-row-start-2
+part-step-row-start-2 c = search needs
+
+part-step-row-end-2 : tie.Need-part-step-row-end-2
+part-step-row-end-2 c = omega arith
+
+step-row-requires : tie.Need-step-row-requires
+step-row-requires c κs = search needs
+
+same-length : tie.Need-same-length
+same-length c = search needs
+
+returns-4 : tie.Need-returns-4
+returns-4 c =
+    let a = c .before .before .before .before .before .before .before .before .before .before .before .args in
+    let t = c .before .before .step-row in
+    given (a .card) (a .soil .now) (a .rows .now) (a .r) (both-fit _ _ _ (c .before .before .before .before .before .before .before .if1 .left) (c .before .before .before .before .before .before .if2 .left)) (cell-on _ _ (c .before .before .before .before .before .if3 .left)) (t .result) (t .last .1 .1 .0) (t .ensures)
+
+pub step-spec : {M : Type 1} → statement M
+step-spec =
+    tie.close
+    (tie.spec
+    cast-cells
+    cast-cell
+    mul-if1
+    refused-requires
+    returns
+    mul-if2
+    refused-requires-2
+    returns-2
+    refused-requires-3
+    returns-3
+    mul-s
+    add-s-end
+    mul-w
+    add-w-end
+    mul-step-row
+    sub-step-row
+    part-step-row-start
+    part-step-row-end
+    mul-step-row-2
+    sub-step-row-2
+    part-step-row-start-2
+    part-step-row-end-2
+    step-row-requires
+    same-length
+    returns-4)

@@ -1,0 +1,77 @@
+-- A step of the site, and clearing. Definitions only.
+use Prim.Native.Nat.{ℕ, _*_}
+use mathlib.Core.Path.{_≡_}
+use mathlib.Core.Bool.{Bool, true, false, cond, _&&_}
+use mathlib.Core.List.{List}
+use lib.Dec.{ltb, eqb}
+use lib.IntN.{ℤ}
+use lib.ListN.{length, replicate}
+use Rattle.cell.specs.declared.Answer.{Answer}
+use Rattle.cell.specs.declared.Answer.the-variants.{Accepted, Refused}
+use Rattle.cell.specs.declared.Card.{Card}
+use Rattle.cell.specs.declared.Reading.{Reading}
+use Rattle.cell.specs.declared.Refusal.{Refusal}
+use Rattle.cell.specs.declared.Refusal.the-variants.{BadCard, BadLengths, BadCell}
+use Rattle.cell.specs.Ranges.{cardOk}
+use Rattle.cell.specs.Step.{answerOf, newRow}
+use Rattle.site.specs.Rows.{partAt, putAt}
+
+-- 5 soil numbers per cell, and 32 numbers per stored row
+abbrev pub soilWidth : ℕ
+soilWidth = 5
+
+abbrev pub rowWidth : ℕ
+rowWidth = 32
+
+-- 2. the two slices are as long as the card says
+unfoldable pub soilFits : Card → List ℤ → Bool
+soilFits card soil = eqb (length soil) (soilWidth * card .cells)
+
+unfoldable pub rowsFit : Card → List ℕ → Bool
+rowsFit card rows = eqb (length rows) (rowWidth * card .cells)
+
+-- 3. the cell number is below cells
+unfoldable pub cellFits : Card → Reading → Bool
+cellFits card r = ltb (r .cell) (card .cells)
+
+-- a check: refused with `why` where it fails, else what comes next
+unfoldable pub refuse : Bool → Refusal → Answer → Answer
+refuse true why next = next
+refuse false why next = Refused why
+
+-- checks 1, 2 and 3, then the step of the named cell's row with its soil numbers
+unfoldable pub siteAnswer : Card → List ℤ → List ℕ → Reading → Answer
+siteAnswer card soil rows r =
+    refuse (cardOk card) BadCard
+    (refuse (soilFits card soil && rowsFit card rows) BadLengths
+    (refuse (cellFits card r) BadCell
+    (answerOf card (partAt soilWidth (r .cell) soil) (partAt rowWidth (r .cell) rows) r)))
+
+-- a slice by an answer: as it came where it was refused
+unfoldable pub rowsBy : Answer → List ℕ → List ℕ → List ℕ
+rowsBy (Accepted a) after rows = after
+rowsBy (Refused why) after rows = rows
+
+-- the rows after a step: accepted, the named cell's row is the new one and no other number changes
+unfoldable pub siteRows : Card → List ℤ → List ℕ → Reading → List ℕ
+siteRows card soil rows r =
+    rowsBy (siteAnswer card soil rows r)
+    (putAt rowWidth (r .cell) (newRow card (partAt soilWidth (r .cell) soil) (partAt rowWidth (r .cell) rows) r) rows)
+    rows
+
+-- what a step of the site gives, for every input
+pub record SiteGives (card : Card) (soil : List ℤ) (rows : List ℕ) (r : Reading) (answer : Answer) (after : List ℕ) : Type 0 where
+  pub answer-is : answer ≡ siteAnswer card soil rows r
+  pub rows-are : after ≡ siteRows card soil rows r
+
+-- ---- clearing: knows 1 and the row part of 2 only
+unfoldable pub clearNumber : Card → List ℕ → ℕ
+clearNumber card rows = cond (cardOk card) (cond (rowsFit card rows) 0 2) 1
+
+-- sets all rows of the site to 0; refused, the slice is as it came
+unfoldable pub clearRows : Card → List ℕ → List ℕ
+clearRows card rows = cond (cardOk card && rowsFit card rows) (replicate (length rows) 0) rows
+
+pub record ClearGives (card : Card) (rows : List ℕ) (number : ℕ) (after : List ℕ) : Type 0 where
+  pub number-is : number ≡ clearNumber card rows
+  pub rows-are : after ≡ clearRows card rows

@@ -1,0 +1,145 @@
+-- Laws of a step of the site and of clearing. Assumes nothing.
+use mathlib.Core.Path.{_≡_, refl, sym, ap, _∙_}
+use mathlib.Core.Bool.{Bool, true, false, cond, _&&_, and-eq-true-iff}
+use mathlib.Core.List.{List}
+use Prim.Native.Nat.{ℕ, _+_, _*_, _≤_, _<_}
+use native.Mathlib.Omega.{arith}
+use borrow.Author.Tests.{ltb-true, eqb-true}
+use lib.Dec.{ltb, eqb}
+use lib.IntN.{ℤ}
+use lib.ListN.{length, replicate}
+use Rattle.cell.specs.declared.Amounts.{Amounts}
+use Rattle.cell.specs.declared.Answer.{Answer}
+use Rattle.cell.specs.declared.Answer.the-variants.{Accepted, Refused}
+use Rattle.cell.specs.declared.Card.{Card}
+use Rattle.cell.specs.declared.Reading.{Reading}
+use Rattle.cell.specs.declared.Refusal.{Refusal}
+use Rattle.cell.specs.declared.Refusal.the-variants.{BadCard, BadLengths, BadCell}
+use Rattle.cell.specs.Ranges.{cardOk}
+use Rattle.cell.specs.Step.{answerOf, newRow}
+use Rattle.cell.specs.AnswerLaws.{stays, bad-card, length-after}
+use Rattle.site.specs.Rows.{partAt, putAt}
+use Rattle.site.specs.RowsLaws.{put-back, put-same, put-other, put-length, put-outside, room}
+use Rattle.site.specs.Site.{soilWidth, rowWidth, soilFits, rowsFit, cellFits, refuse, siteAnswer, rowsBy, siteRows, SiteGives, clearNumber, clearRows, ClearGives}
+
+module _ (card : Card) (soil : List ℤ) (rows : List ℕ) (r : Reading) where
+  abbrev soilPart : List ℤ
+  soilPart = partAt soilWidth (r .cell) soil
+
+  abbrev rowPart : List ℕ
+  rowPart = partAt rowWidth (r .cell) rows
+
+  -- ---- by the checks 2 and 3, each after check 1
+  by-checks : {a b c : Bool} → cardOk card ≡ a → (soilFits card soil && rowsFit card rows) ≡ b → cellFits card r ≡ c
+      → refuse a BadCard (refuse b BadLengths (refuse c BadCell (answerOf card soilPart rowPart r))) ≡ siteAnswer card soil rows r
+  unfolding siteAnswer
+  by-checks p q s = rw (p, q, s)
+
+  pub lengths-bad : (soilFits card soil && rowsFit card rows) ≡ false → siteAnswer card soil rows r ≡ Refused (cond (cardOk card) BadLengths BadCard)
+  unfolding refuse
+  lengths-bad e = go (cardOk card) refl
+    where
+      go : (a : Bool) → cardOk card ≡ a → siteAnswer card soil rows r ≡ Refused (cond a BadLengths BadCard)
+      go true p = sym (by-checks p e refl)
+      go false p = sym (by-checks p refl refl)
+
+  pub cell-bad : (soilFits card soil && rowsFit card rows) ≡ true → cellFits card r ≡ false → siteAnswer card soil rows r ≡ Refused (cond (cardOk card) BadCell BadCard)
+  unfolding refuse
+  cell-bad e f = go (cardOk card) refl
+    where
+      go : (a : Bool) → cardOk card ≡ a → siteAnswer card soil rows r ≡ Refused (cond a BadCell BadCard)
+      go true p = sym (by-checks p e f)
+      go false p = sym (by-checks p refl refl)
+
+  -- where neither fails, the answer is the named row's, whose own first check is 1
+  pub reached : (soilFits card soil && rowsFit card rows) ≡ true → cellFits card r ≡ true → siteAnswer card soil rows r ≡ answerOf card soilPart rowPart r
+  unfolding refuse
+  reached e f = go (cardOk card) refl
+    where
+      go : (a : Bool) → cardOk card ≡ a → siteAnswer card soil rows r ≡ answerOf card soilPart rowPart r
+      go true p = sym (by-checks p e f)
+      go false p = sym (by-checks p refl refl) ∙ sym (bad-card card soilPart rowPart r p)
+
+  -- ---- the rows: refused, exactly as they came
+  pub rows-stay : (why : Refusal) → siteAnswer card soil rows r ≡ Refused why → siteRows card soil rows r ≡ rows
+  unfolding siteRows rowsBy
+  rows-stay why e = rw e
+
+  pub rows-reached : (soilFits card soil && rowsFit card rows) ≡ true → cellFits card r ≡ true
+      → siteRows card soil rows r ≡ putAt rowWidth (r .cell) (newRow card soilPart rowPart r) rows
+  unfolding siteRows rowsBy
+  rows-reached e f = go (answerOf card soilPart rowPart r) refl
+    where
+      after : List ℕ
+      after = putAt rowWidth (r .cell) (newRow card soilPart rowPart r) rows
+
+      go : (b : Answer) → answerOf card soilPart rowPart r ≡ b → rowsBy (siteAnswer card soil rows r) after rows ≡ after
+      go (Accepted a) g = rw (reached e f, g)
+      go (Refused why) g = rw (reached e f, g) (sym (rw (stays card soilPart rowPart r why g) (put-back rowWidth (r .cell) rows)))
+
+  -- ---- an accepted step: what was checked, and what it left
+  module _ (a : Amounts) (e : siteAnswer card soil rows r ≡ Accepted a) where
+    no-refusal : (why : Refusal) → siteAnswer card soil rows r ≡ Refused why → ⊥
+    no-refusal why f = let z : _≡_ {A = ℕ} 0 1 = cc in omega arith
+
+    lengths-were : (soilFits card soil && rowsFit card rows) ≡ true
+    lengths-were = go (soilFits card soil && rowsFit card rows) refl
+      where
+        go : (b : Bool) → (soilFits card soil && rowsFit card rows) ≡ b → b ≡ true
+        go true q = refl
+        go false q = absurd (no-refusal _ (lengths-bad q))
+
+    cell-was : cellFits card r ≡ true
+    cell-was = go (cellFits card r) refl
+      where
+        go : (b : Bool) → cellFits card r ≡ b → b ≡ true
+        go true q = refl
+        go false q = absurd (no-refusal _ (cell-bad lengths-were q))
+
+    pub row-answer : answerOf card soilPart rowPart r ≡ Accepted a
+    row-answer = sym (reached lengths-were cell-was) ∙ e
+
+    pub cell-below : r .cell < card .cells
+    unfolding cellFits
+    cell-below = ltb-true (r .cell) (card .cells) cell-was
+
+    pub rows-long : length rows ≡ rowWidth * card .cells
+    unfolding rowsFit
+    rows-long = eqb-true (length rows) (rowWidth * card .cells) (and-eq-true-iff (soilFits card soil) (rowsFit card rows) .0 lengths-were .1)
+
+    has-room : rowWidth * r .cell + rowWidth ≤ length rows
+    has-room = room rowWidth (r .cell) (card .cells) rows rows-long cell-below
+
+    new-length : length (newRow card soilPart rowPart r) ≡ rowWidth
+    new-length = length-after card soilPart rowPart r a row-answer
+
+    rows-are : siteRows card soil rows r ≡ putAt rowWidth (r .cell) (newRow card soilPart rowPart r) rows
+    rows-are = rows-reached lengths-were cell-was
+
+    -- the named cell's row is the new one, every other cell's is as it was, and no other number of the slice differs
+    pub own-row : partAt rowWidth (r .cell) (siteRows card soil rows r) ≡ newRow card soilPart rowPart r
+    own-row = rw rows-are (put-same rowWidth (r .cell) (newRow card soilPart rowPart r) rows new-length has-room)
+
+    pub other-row : (p : ℕ) → ¬ (r .cell ≡ p) → partAt rowWidth p (siteRows card soil rows r) ≡ partAt rowWidth p rows
+    other-row p ne = rw rows-are (put-other rowWidth (r .cell) (newRow card soilPart rowPart r) rows new-length has-room p ne)
+
+    pub rows-length : length (siteRows card soil rows r) ≡ length rows
+    rows-length = rw rows-are (put-length rowWidth (r .cell) (newRow card soilPart rowPart r) rows new-length has-room)
+
+-- ---- clearing, by its two checks
+module _ (card : Card) (rows : List ℕ) where
+  pub clear-card : cardOk card ≡ false → ClearGives card rows 1 rows
+  unfolding clearNumber clearRows
+  clear-card p = record { number-is = rw p; rows-are = rw p }
+
+  pub clear-long : cardOk card ≡ true → rowsFit card rows ≡ false → ClearGives card rows 2 rows
+  unfolding clearNumber clearRows
+  clear-long p q = record { number-is = rw (p, q); rows-are = rw (p, q) }
+
+  pub clear-done : cardOk card ≡ true → rowsFit card rows ≡ true → ClearGives card rows 0 (replicate (length rows) 0)
+  unfolding clearNumber clearRows
+  clear-done p q = record { number-is = rw (p, q); rows-are = rw (p, q) }
+
+-- ---- a step that is refused gives the rows as they came
+pub refused-gives : (card : Card) (soil : List ℤ) (rows : List ℕ) (r : Reading) (why : Refusal) → siteAnswer card soil rows r ≡ Refused why → SiteGives card soil rows r (Refused why) rows
+refused-gives card soil rows r why e = record { answer-is = sym e; rows-are = sym (rows-stay card soil rows r why e) }
