@@ -3,3 +3,4 @@ pub mod Fits
 pub mod Sides
 pub mod Loops
 pub mod Parts
+pub mod Settled

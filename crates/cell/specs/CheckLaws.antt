@@ -55,6 +55,11 @@ passed card soil row r d e =
     let p6 = unless-fine _ _ _ d (p5 .1) in
     record { card-ok = p1 .0; soil-ok = p2 .0; row-ok = p3 .0; not-old = not-true _ (p4 .0); not-gap = not-true _ (p5 .0); fields-ok = p6 .0; head-ok = p6 .1 }
 
+-- and where all are passed, the verdict is that depth
+pub verdict-fine : (card : Card) (soil : List ℤ) (row : List ℕ) (r : Reading) (d : Depth) → Passed card soil row r d → verdictOf card soil row r ≡ Fine d
+unfolding verdictOf unless
+verdict-fine card soil row r d p = rw (p .card-ok, p .soil-ok, p .row-ok, p .not-old, p .not-gap, p .fields-ok) (p .head-ok)
+
 -- check 1 comes first
 pub verdict-card : (card : Card) (soil : List ℤ) (row : List ℕ) (r : Reading) → cardOk card ≡ false → verdictOf card soil row r ≡ Bad BadCard
 unfolding verdictOf unless

@@ -1,12 +1,18 @@
 -- The waiting queue of one plot: the list of its slots 1 .. M, in that order. Definitions only.
+use mathlib.Core.Bool.{cond}
 use mathlib.Core.List.{List, [], _∷_, _++_}
 use Prim.Native.Nat.{ℕ, zero, suc, _+_, _-_, min}
+use lib.Dec.{eqb}
 use lib.ListN.{getD, set}
 
 -- what stands in slot k; 0 where there is no slot k (k is 0 or above M)
 unfoldable pub slot : List ℕ → ℕ → ℕ
 slot q zero = 0
 slot q (suc i) = getD q i 0
+
+-- f where the two numbers are one, else 0
+abbrev pub just : ℕ → ℕ → ℕ → ℕ
+just a b f = cond (eqb a b) f 0
 
 -- what all slots hold together
 unfoldable pub total : List ℕ → ℕ

@@ -1,15 +1,15 @@
 -- Laws of the queue: a step's moves slot by slot, in total and in length; and the range of the slots. Assumes nothing.
 use mathlib.Core.Path.{_≡_, refl, ap, sym, _∙_}
-use mathlib.Core.Bool.{Bool, true, cond, _&&_, and-eq-true-iff}
+use mathlib.Core.Bool.{Bool, true, _&&_, and-eq-true-iff}
 use mathlib.Core.List.{List, [], _∷_, _++_}
 use Prim.Native.Nat.{ℕ, zero, suc, _+_, _-_, _*_, _≤_, _<_, min}
 use native.Mathlib.Omega.{arith}
 use native.Mathlib.Nat.{le-of-suc-le-suc, not-suc-le-zero, sub-zero}
 use borrow.Author.Tests.{eq-eqb, ne-eqb, le-leb, leb-true}
-use lib.Dec.{leb, eqb, eqb·suc-suc}
-use lib.ListN.{length, getD, take, drop, set, length-set, length-append}
+use lib.Dec.{leb, eqb·suc-suc}
+use lib.ListN.{length, getD, take, drop, set, replicate, length-set, length-append}
 use Rattle.cell.specs.Ranges.{slotsOk}
-use Rattle.cell.specs.Queue.{slot, total, shifted, taken, spared, joined}
+use Rattle.cell.specs.Queue.{slot, just, total, shifted, taken, spared, joined}
 
 -- ---- the shift
 padded : (q : List ℕ) (i : ℕ) → getD (q ++ (0 ∷ [])) i 0 ≡ getD q i 0
@@ -69,10 +69,7 @@ unfolding spared
 length-spared lack [] = refl
 length-spared lack (s ∷ q) = ap suc (length-spared (lack - s) q)
 
--- ---- the deposit: f where the two numbers are one, else 0
-abbrev pub just : ℕ → ℕ → ℕ → ℕ
-just a b f = cond (eqb a b) f 0
-
+-- ---- the deposit
 pub just-same : (a b f : ℕ) → a ≡ b → just a b f ≡ f
 just-same a b f e = rw (eq-eqb a b e)
 
@@ -194,3 +191,45 @@ append-in m n [] q' l h k = let e : m - n ≡ m = omega arith in rw e at k
 append-in m n (s ∷ q) q' l h k =
     let e : m - n ≡ m - 1 - length q = omega arith in
     (h .0, append-in (m - 1) (length q) q q' refl (h .1) (rw e at k))
+
+-- ---- slots and totals, place by place: what a caller computes with instead of the definitions
+pub slot-none : (q : List ℕ) → slot q 0 ≡ 0
+unfolding slot
+slot-none q = refl
+
+pub slot-empty : (k : ℕ) → slot [] k ≡ 0
+unfolding slot
+slot-empty zero = refl
+slot-empty (suc i) = refl
+
+pub slot-head : (s : ℕ) (q : List ℕ) → slot (s ∷ q) 1 ≡ s
+unfolding slot
+slot-head s q = refl
+
+pub slot-tail : (s : ℕ) (q : List ℕ) (i : ℕ) → slot (s ∷ q) (suc (suc i)) ≡ slot q (suc i)
+unfolding slot
+slot-tail s q i = refl
+
+pub total-empty : total [] ≡ 0
+unfolding total
+total-empty = refl
+
+pub total-more : (s : ℕ) (q : List ℕ) → total (s ∷ q) ≡ s + total q
+unfolding total
+total-more s q = refl
+
+-- a cleared queue holds nothing
+zeros : (m i : ℕ) → _≡_ {A = ℕ} (getD (replicate m 0) i 0) 0
+zeros zero i = refl
+zeros (suc m) zero = refl
+zeros (suc m) (suc i) = zeros m i
+
+pub slot-cleared : (m k : ℕ) → slot (replicate m 0) k ≡ 0
+unfolding slot
+slot-cleared m zero = refl
+slot-cleared m (suc i) = zeros m i
+
+pub total-cleared : (m : ℕ) → total (replicate m 0) ≡ 0
+unfolding total
+total-cleared zero = refl
+total-cleared (suc m) = omega (arith, total-cleared m)

@@ -1,6 +1,6 @@
 -- One accepted step of one plot, in document 01's order and with its step numbers; and what a call of the one-row step gives. Definitions only.
 use mathlib.Core.Path.{_≡_}
-use mathlib.Core.List.{List, _∷_, _++_}
+use mathlib.Core.List.{List, [], _∷_, _++_}
 use Prim.Native.Nat.{ℕ, _+_, _-_}
 use lib.IntN.{ℤ}
 use lib.ListN.{drop}
@@ -10,6 +10,7 @@ use Rattle.cell.specs.declared.Answer.the-variants.{Accepted, Refused}
 use Rattle.cell.specs.declared.Card.{Card}
 use Rattle.cell.specs.declared.Depth.{Depth}
 use Rattle.cell.specs.declared.Reading.{Reading}
+use Rattle.cell.specs.declared.Refusal.{Refusal}
 use Rattle.cell.specs.declared.ranges.Soil.{Soil}
 use Rattle.cell.specs.declared.checks.Verdict.{Verdict}
 use Rattle.cell.specs.declared.checks.Verdict.the-variants.{Fine, Bad}
@@ -107,20 +108,25 @@ module _ (card : Card) (soil : Soil) (r : Reading) (d : Depth) where
 
 -- ---- what a call gives, for every input
 
--- an answer and a row by the verdict of the checks: accepted with a depth, or refused and the row as it came
-unfoldable pub answerBy : Verdict → (Depth → Amounts) → Answer
-answerBy (Fine d) amounts = Accepted (amounts d)
-answerBy (Bad why) amounts = Refused why
+-- by the verdict of the checks: something of the depth where they pass, something of the refusal where not
+unfoldable pub judged : {A : Type 0} → Verdict → (Depth → A) → (Refusal → A) → A
+judged (Fine d) passed refused = passed d
+judged (Bad why) passed refused = refused why
 
-unfoldable pub rowBy : Verdict → (Depth → List ℕ) → List ℕ → List ℕ
-rowBy (Fine d) after row = after d
-rowBy (Bad why) after row = row
-
+-- accepted with the ten amounts, or refused
 unfoldable pub answerOf : Card → List ℤ → List ℕ → Reading → Answer
-answerOf card soil row r = answerBy (verdictOf card soil row r) (λ d. stepAmounts card (soilOf soil) r d (queueOf (card .delays) row))
+answerOf card soil row r = judged (verdictOf card soil row r) (λ d. Accepted (stepAmounts card (soilOf soil) r d (queueOf (card .delays) row))) (λ why. Refused why)
 
+-- the row at exit: refused, as it came
 unfoldable pub newRow : Card → List ℤ → List ℕ → Reading → List ℕ
-newRow card soil row r = rowBy (verdictOf card soil row r) (λ d. rowAfter card (soilOf soil) r d row) row
+newRow card soil row r = judged (verdictOf card soil row r) (λ d. rowAfter card (soilOf soil) r d row) (λ why. row)
+
+-- what an account asks of a step besides its amounts: the delay of 4, and what 7 draws from each slot
+unfoldable pub stepDelay : Card → List ℤ → List ℕ → Reading → ℕ
+stepDelay card soil row r = judged (verdictOf card soil row r) (λ d. delay card (soilOf soil) r d) (λ why. 0)
+
+unfoldable pub stepDraws : Card → List ℤ → List ℕ → Reading → List ℕ
+stepDraws card soil row r = judged (verdictOf card soil row r) (λ d. draws card (soilOf soil) r d (queueOf (card .delays) row)) (λ why. [])
 
 -- the one-row step: its answer, and the row at exit
 pub record StepGives (card : Card) (soil : List ℤ) (row : List ℕ) (r : Reading) (answer : Answer) (after : List ℕ) : Type 0 where

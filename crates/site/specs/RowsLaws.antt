@@ -2,10 +2,10 @@
 use mathlib.Core.Path.{_≡_, refl, ap, sym, _∙_}
 use mathlib.Core.List.{List, [], _∷_, _++_}
 use Prim.Native.Nat.{ℕ, zero, suc, _+_, _-_, _*_, _≤_, _<_, min}
-use native.Mathlib.Nat.{mul-le-mul-left}
+use native.Mathlib.Nat.{mul-le-mul-left, le-of-suc-le-suc, not-suc-le-zero, sub-zero}
 use native.Mathlib.Omega.{arith}
 use native.Mathlib.Decide.{decLe}
-use lib.ListN.{length, getD, take, drop, take-append-drop, length-append, length-take, length-drop, List·getD-append}
+use lib.ListN.{length, getD, take, drop, replicate, take-append-drop, length-append, length-take, length-drop, List·getD-append}
 use lib.Seq.{length-take-le, take-at, drop-at, drop-drop, getD-append-add, getD-take, getD-drop, ext-getD}
 use Rattle.site.specs.Rows.{partAt, putAt}
 
@@ -83,3 +83,18 @@ module _ (w c : ℕ) (row l : List ℕ) (len : length row ≡ w) (fits : w * c +
       outside : (i : ℕ) → i < w → Dec (c ≤ p) → getD (putAt w c row l) (w * p + i) 0 ≡ getD l (w * p + i) 0
       outside i k (yes h) = let b : suc c ≤ p = omega arith in above (w * p + i) (omega (arith, mul-le-mul-left w b))
       outside i k (no h) = let b : suc p ≤ c = omega arith in below (w * p + i) (omega (arith, mul-le-mul-left w b))
+
+-- a part of zeros is zeros
+pub first-zeros : (m n : ℕ) → m ≤ n → _≡_ {A = List ℕ} (take m (replicate n 0)) (replicate m 0)
+first-zeros zero n h = refl
+first-zeros (suc m) zero h = absurd (not-suc-le-zero h)
+first-zeros (suc m) (suc n) h = ap (λ (t : List ℕ). 0 ∷ t) (first-zeros m n (le-of-suc-le-suc h))
+
+later-zeros : (k n : ℕ) → _≡_ {A = List ℕ} (drop k (replicate n 0)) (replicate (n - k) 0)
+later-zeros zero n = ap (λ (j : ℕ). replicate j 0) (sym (sub-zero n))
+later-zeros (suc k) zero = let e : 0 - suc k ≡ 0 = omega arith in rw e
+later-zeros (suc k) (suc n) = let e : suc n - suc k ≡ n - k = omega arith in rw e (later-zeros k n)
+
+pub part-zeros : (w c n : ℕ) → w * c + w ≤ n → partAt {A = ℕ} w c (replicate n 0) ≡ replicate w 0
+unfolding partAt
+part-zeros w c n h = ap (take w) (later-zeros (w * c) n) ∙ first-zeros w (n - w * c) (omega arith)

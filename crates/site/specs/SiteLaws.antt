@@ -2,12 +2,13 @@
 use mathlib.Core.Path.{_≡_, refl, sym, ap, _∙_}
 use mathlib.Core.Bool.{Bool, true, false, cond, _&&_, and-eq-true-iff}
 use mathlib.Core.List.{List}
-use Prim.Native.Nat.{ℕ, _+_, _*_, _≤_, _<_}
+use Prim.Native.Nat.{ℕ, suc, _+_, _*_, _≤_, _<_}
+use native.Mathlib.Nat.{mul-le-mul-left}
 use native.Mathlib.Omega.{arith}
 use borrow.Author.Tests.{ltb-true, eqb-true}
 use lib.Dec.{ltb, eqb}
 use lib.IntN.{ℤ}
-use lib.ListN.{length, replicate}
+use lib.ListN.{length, getD, replicate}
 use Rattle.cell.specs.declared.Amounts.{Amounts}
 use Rattle.cell.specs.declared.Answer.{Answer}
 use Rattle.cell.specs.declared.Answer.the-variants.{Accepted, Refused}
@@ -19,7 +20,7 @@ use Rattle.cell.specs.Ranges.{cardOk}
 use Rattle.cell.specs.Step.{answerOf, newRow}
 use Rattle.cell.specs.AnswerLaws.{stays, bad-card, length-after}
 use Rattle.site.specs.Rows.{partAt, putAt}
-use Rattle.site.specs.RowsLaws.{put-back, put-same, put-other, put-length, put-outside, room}
+use Rattle.site.specs.RowsLaws.{put-back, put-same, put-other, put-length, put-outside, room, part-zeros}
 use Rattle.site.specs.Site.{soilWidth, rowWidth, soilFits, rowsFit, cellFits, refuse, siteAnswer, rowsBy, siteRows, SiteGives, clearNumber, clearRows, ClearGives}
 
 module _ (card : Card) (soil : List ℤ) (rows : List ℕ) (r : Reading) where
@@ -123,6 +124,9 @@ module _ (card : Card) (soil : List ℤ) (rows : List ℕ) (r : Reading) where
     pub other-row : (p : ℕ) → ¬ (r .cell ≡ p) → partAt rowWidth p (siteRows card soil rows r) ≡ partAt rowWidth p rows
     other-row p ne = rw rows-are (put-other rowWidth (r .cell) (newRow card soilPart rowPart r) rows new-length has-room p ne)
 
+    pub outside : (j : ℕ) → ¬ ((rowWidth * r .cell ≤ j) × (j < rowWidth * r .cell + rowWidth)) → getD (siteRows card soil rows r) j 0 ≡ getD rows j 0
+    outside j n = rw rows-are (put-outside rowWidth (r .cell) (newRow card soilPart rowPart r) rows new-length has-room j n)
+
     pub rows-length : length (siteRows card soil rows r) ≡ length rows
     rows-length = rw rows-are (put-length rowWidth (r .cell) (newRow card soilPart rowPart r) rows new-length has-room)
 
@@ -143,3 +147,38 @@ module _ (card : Card) (rows : List ℕ) where
 -- ---- a step that is refused gives the rows as they came
 pub refused-gives : (card : Card) (soil : List ℤ) (rows : List ℕ) (r : Reading) (why : Refusal) → siteAnswer card soil rows r ≡ Refused why → SiteGives card soil rows r (Refused why) rows
 refused-gives card soil rows r why e = record { answer-is = sym e; rows-are = sym (rows-stay card soil rows r why e) }
+
+-- ---- the answer and the new row depend on nothing but the card, the two lengths, the named cell's soil numbers and row, and the reading
+module _ (card : Card) (soil soil' : List ℤ) (rows rows' : List ℕ) (r : Reading)
+    (soil-long : length soil ≡ length soil') (rows-long : length rows ≡ length rows')
+    (same-soil : partAt soilWidth (r .cell) soil ≡ partAt soilWidth (r .cell) soil')
+    (same-row : partAt rowWidth (r .cell) rows ≡ partAt rowWidth (r .cell) rows') where
+  pub same-answer : siteAnswer card soil rows r ≡ siteAnswer card soil' rows' r
+  unfolding siteAnswer soilFits rowsFit
+  same-answer = rw (soil-long, rows-long, same-soil, same-row)
+
+  pub same-new-row : partAt rowWidth (r .cell) (siteRows card soil rows r) ≡ partAt rowWidth (r .cell) (siteRows card soil' rows' r)
+  same-new-row = go (siteAnswer card soil rows r) refl
+    where
+      go : (b : Answer) → siteAnswer card soil rows r ≡ b → partAt rowWidth (r .cell) (siteRows card soil rows r) ≡ partAt rowWidth (r .cell) (siteRows card soil' rows' r)
+      go (Accepted a) e =
+          own-row card soil rows r a e
+          ∙ ap (λ (s : List ℤ). newRow card s (partAt rowWidth (r .cell) rows) r) same-soil
+          ∙ ap (λ (w : List ℕ). newRow card (partAt soilWidth (r .cell) soil') w r) same-row
+          ∙ sym (own-row card soil' rows' r a (sym same-answer ∙ e))
+      go (Refused why) e =
+          ap (partAt rowWidth (r .cell)) (rows-stay card soil rows r why e)
+          ∙ same-row
+          ∙ sym (ap (partAt rowWidth (r .cell)) (rows-stay card soil' rows' r why (sym same-answer ∙ e)))
+
+-- ---- a cleared site: each cell's row is 32 zeros
+pub cleared-part : (card : Card) (rows : List ℕ) → clearNumber card rows ≡ 0 → (p : ℕ) → p < card .cells → partAt rowWidth p (clearRows card rows) ≡ replicate rowWidth 0
+unfolding clearNumber clearRows rowsFit
+cleared-part card rows z p h = go (cardOk card) (eqb (length rows) (rowWidth * card .cells)) refl z
+  where
+    go : (a b : Bool) → eqb (length rows) (rowWidth * card .cells) ≡ b → _≡_ {A = ℕ} (cond a (cond b 0 2) 1) 0 → partAt rowWidth p (cond (a && b) (replicate (length rows) 0) rows) ≡ replicate rowWidth 0
+    go false b e f = absurd (omega arith)
+    go true false e f = absurd (omega arith)
+    go true true e f =
+        let l : length rows ≡ rowWidth * card .cells = eqb-true (length rows) (rowWidth * card .cells) e in
+        part-zeros rowWidth p (length rows) (let k : suc p ≤ card .cells = h in omega (arith, mul-le-mul-left rowWidth k))

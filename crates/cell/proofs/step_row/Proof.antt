@@ -15,7 +15,7 @@ use Rattle.cell.specs.declared.checks.Verdict.the-variants.{Fine, Bad}
 use Rattle.cell.specs.Ranges.{soilOf, queueOf}
 use Rattle.cell.specs.Refusals.{verdictOf}
 use Rattle.cell.specs.CheckLaws.{passed, checked}
-use Rattle.cell.specs.Step.{stepAmounts, rowAfter, answerBy, rowBy, answerOf, newRow, StepGives}
+use Rattle.cell.specs.Step.{stepAmounts, rowAfter, judged, answerOf, newRow, StepGives}
 use borrow.Author.Needs.{needs}
 use Rattle.cell.proofs.step_row.Statement.{statement}
 use Rattle.cell.proofs.step_row.Tie as tie
@@ -23,14 +23,14 @@ use Rattle.cell.proofs.step_row.Tie as tie
 -- what the call gives by the verdict
 module _ (card : Card) (soil : List ℤ) (row : List ℕ) (r : Reading) {v : Verdict} (is : v ≡ verdictOf card soil row r) where
   refused : {why : Refusal} → v ≡ Bad why → StepGives card soil row r (Refused why) row
-  unfolding answerOf newRow answerBy rowBy
+  unfolding answerOf newRow judged
   refused {why} e =
       let h : verdictOf card soil row r ≡ Bad why = sym is ∙ e in
       record { answer-is = rw h; row-is = rw h }
 
   accepted : {d : Depth} → v ≡ Fine d → {s : Soil} → s ≡ soilOf soil → {a : Amounts} {after : List ℕ} → a ≡ stepAmounts card s r d (queueOf (card .delays) row) → after ≡ rowAfter card s r d row
       → StepGives card soil row r (Accepted a) after
-  unfolding answerOf newRow answerBy rowBy
+  unfolding answerOf newRow judged
   accepted {d} e es ea er =
       let h : verdictOf card soil row r ≡ Fine d = sym is ∙ e in
       record { answer-is = rw (h, ea, es); row-is = rw (h, er, es) }
