@@ -1,0 +1,15 @@
+-- Numbers, values and lines as text.
+pub mod Bytes
+pub mod Dec
+pub mod Hex
+pub mod Signed
+pub mod Form
+pub mod Many
+pub mod Words
+-- laws of these
+pub mod DecLaws
+pub mod HexLaws
+pub mod FormLaws
+pub mod RunLaws
+pub mod ManyLaws
+pub mod Put

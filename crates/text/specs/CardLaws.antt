@@ -1,0 +1,179 @@
+-- Laws of cards as text.
+use mathlib.Core.Path.{_≡_, refl, sym, ap, _∙_}
+use mathlib.Core.List.{List, [], _∷_, _++_, map}
+use mathlib.Core.Bool.{Bool, true, false, cond, false≢true}
+use Prim.Native.Nat.{ℕ, zero, suc, _+_, _-_, _*_, _≤_, _<_}
+use native.Mathlib.Numerals.{add-one}
+use native.Mathlib.Omega.{arith}
+use lib.ListN.{length, take, drop, getD, set, replicate, length-map, length-take, length-append, length-set, length-drop, drop-of-length-le}
+use lib.Seq.{sets, sets-eq, set-at, drop-cons, take-suc, append-snoc, length-take-le, take-at}
+use lib.Dec.{ltb, eqb}
+use lib.IntN.{ℤ, pos}
+use borrow.Author.Tests.{lt-ltb, le-ltb, eq-eqb, ne-eqb, ltb-true, ltb-false}
+use Rattle.form.specs.declared.line.Taken.{Taken}
+use Rattle.form.specs.declared.lines.Ran.{Ran}
+use Rattle.text.specs.declared.card.Counts.{Counts}
+use Rattle.cell.specs.declared.Card.{Card}
+use Rattle.text.specs.declared.card.CardRead.{CardRead}
+use Rattle.form.specs.Put.{sets-all}
+use Rattle.form.specs.Form.{Out, formAt, takenOf, byteAt}
+use Rattle.form.specs.Many.{Run, manyAt, ranOf}
+use Rattle.form.specs.RunLaws.{form-length, many-length, many-good}
+use Rattle.form.specs.Words.{wordOf}
+use Rattle.text.specs.Lines.{cardForm, depthForm, soilForm}
+use Rattle.text.specs.Cards.{noCounts, rangeCounts, countsOf, countsOfOut, depthsAt, ended, cardOf, noCard, refusedCard, Parsed, badLine, parsedOf, parse, cardResult, soilResult}
+
+-- a copy's turn
+pub copy-suc : (s d : List ℤ) (k : ℕ) → k < length s → k < length d → set (take k s ++ drop k d) k (getD s k (pos 0)) ≡ take (suc k) s ++ drop (suc k) d
+copy-suc s d k h g =
+    rw (drop-cons d k (pos 0) g, take-suc s k (pos 0) h)
+    (set-at (take k s) (getD d k (pos 0)) (drop (suc k) d) (getD s k (pos 0)) k (length-take-le k s (omega arith)) ∙ sym (append-snoc (take k s) (getD s k (pos 0)) (drop (suc k) d)))
+
+-- a turn of taking values as 32 bits
+pub words-turn : (d : List ℕ) (v : List ℤ) (k w : ℕ) → k < length v → w ≡ wordOf (getD v k (pos 0))
+    → sets d k (map wordOf (drop k v)) ≡ sets (set d k w) (k + 1) (map wordOf (drop (k + 1) v))
+words-turn d v k w h e = rw (add-one k, drop-cons v k (pos 0) h, e)
+
+-- ---- the first line
+module _ (s : List ℕ) (t : Taken) (e : t ≡ takenOf (formAt cardForm s 0)) where
+  pub head-good : (z v : List ℤ) (a b : ℕ) (h : Counts) → t .ok ≡ true → v ≡ sets z 0 (formAt cardForm s 0 .vals) → length z ≡ 2
+      → h ≡ rangeCounts (t .next) a b → a ≡ wordOf (getD v 0 (pos 0)) → b ≡ wordOf (getD v 1 (pos 0)) → h ≡ countsOf s
+  unfolding countsOf
+  head-good z v a b h o f l r p q =
+      let k : formAt cardForm s 0 .ok ≡ true = sym (ap (λ (x : Taken). x .ok) e) ∙ o in
+      let g : v ≡ formAt cardForm s 0 .vals = f ∙ sets-all z (formAt cardForm s 0 .vals) (form-length cardForm s 0 k ∙ sym l) in
+      rw (k, r, p, q, g, e)
+
+  pub head-bad : t .ok ≡ false → noCounts ≡ countsOf s
+  unfolding countsOf
+  head-bad o =
+      let k : formAt cardForm s 0 .ok ≡ false = sym (ap (λ (x : Taken). x .ok) e) ∙ o in
+      rw k
+
+module _ (n : ℕ) (s : List ℕ) (from : ℕ) (t : Ran) (z v : List ℤ) (e : t ≡ ranOf (manyAt n depthForm s from) 0) (f : v ≡ sets z 0 (manyAt n depthForm s from .vals)) where
+  abbrev Ends : Taken → Type 0
+  Ends r = (r ≡ takenOf (depthsAt n s from)) × (v ≡ sets z 0 (depthsAt n s from .vals))
+
+  pub ends-good : t .ok ≡ true → byteAt s (t .next) ≡ 10 → Ends (record { ok = true; next = t .next + 1 })
+  unfolding depthsAt
+  ends-good o b =
+      let k : manyAt n depthForm s from .ok ≡ true = sym (ap (λ (x : Ran). x .ok) e) ∙ o in
+      let x : t .next ≡ manyAt n depthForm s from .next = ap (λ (x : Ran). x .next) e in
+      let y : byteAt s (manyAt n depthForm s from .next) ≡ 10 = rw x at b in
+      (rw (k, eq-eqb _ _ y, add-one (t .next), x), rw (k, eq-eqb _ _ y) f)
+
+  pub ends-other : t .ok ≡ true → (byteAt s (t .next) ≡ 10 → ⊥) → Ends (record { ok = false; next = 0 })
+  unfolding depthsAt
+  ends-other o b =
+      let k : manyAt n depthForm s from .ok ≡ true = sym (ap (λ (x : Ran). x .ok) e) ∙ o in
+      let x : t .next ≡ manyAt n depthForm s from .next = ap (λ (x : Ran). x .next) e in
+      let y : byteAt s (manyAt n depthForm s from .next) ≡ 10 → ⊥ = rw x at b in
+      (rw (k, ne-eqb _ _ y), rw (k, ne-eqb _ _ y) f)
+
+  pub ends-bad : t .ok ≡ false → Ends (record { ok = false; next = 0 })
+  unfolding depthsAt
+  ends-bad o =
+      let k : manyAt n depthForm s from .ok ≡ false = sym (ap (λ (x : Ran). x .ok) e) ∙ o in
+      (rw k, rw k f)
+
+pub head-range : (s : List ℕ) (h : Counts) → h ≡ countsOf s → (h .delays ≤ 30) × (h .cells ≤ 256)
+unfolding countsOf rangeCounts
+head-range s h e = rw e (first (formAt cardForm s 0))
+  where
+    last : (b : Bool) (n c d : ℕ) → ltb 30 d ≡ b → ltb 256 c ≡ false → (cond b noCounts (record { ok = true; next = n; cells = c; delays = d }) .delays ≤ 30) × (cond b noCounts (record { ok = true; next = n; cells = c; delays = d }) .cells ≤ 256)
+    last true n c d p q = (omega arith, omega arith)
+    last false n c d p q = (ltb-false 30 d p, ltb-false 256 c q)
+
+    mid : (b : Bool) (n c d : ℕ) → ltb 256 c ≡ b → (cond b noCounts (cond (ltb 30 d) noCounts (record { ok = true; next = n; cells = c; delays = d })) .delays ≤ 30) × (cond b noCounts (cond (ltb 30 d) noCounts (record { ok = true; next = n; cells = c; delays = d })) .cells ≤ 256)
+    mid true n c d p = (omega arith, omega arith)
+    mid false n c d p = last (ltb 30 d) n c d refl p
+
+    low : (b : Bool) (n c d : ℕ) → ltb c 1 ≡ b → (cond b noCounts (cond (ltb 256 c) noCounts (cond (ltb 30 d) noCounts (record { ok = true; next = n; cells = c; delays = d }))) .delays ≤ 30) × (cond b noCounts (cond (ltb 256 c) noCounts (cond (ltb 30 d) noCounts (record { ok = true; next = n; cells = c; delays = d }))) .cells ≤ 256)
+    low true n c d p = (omega arith, omega arith)
+    low false n c d p = mid (ltb 256 c) n c d refl
+
+    first : (o : Out) → (countsOfOut o .delays ≤ 30) × (countsOfOut o .cells ≤ 256)
+    first o = go (o .ok)
+      where
+        go : (b : Bool) → (cond b (rangeCounts (o .next) (wordOf (getD (o .vals) 0 (pos 0))) (wordOf (getD (o .vals) 1 (pos 0)))) noCounts .delays ≤ 30) × (cond b (rangeCounts (o .next) (wordOf (getD (o .vals) 0 (pos 0))) (wordOf (getD (o .vals) 1 (pos 0)))) noCounts .cells ≤ 256)
+        go true = low (ltb (wordOf (getD (o .vals) 0 (pos 0))) 1) (o .next) (wordOf (getD (o .vals) 0 (pos 0))) (wordOf (getD (o .vals) 1 (pos 0))) refl
+        go false = (omega arith, omega arith)
+
+-- ---- the whole card
+abbrev DD : List ℕ → Out
+DD s = depthsAt (countsOf s .delays) s (countsOf s .next)
+
+abbrev MM : List ℕ → Run
+MM s = manyAt (countsOf s .cells) soilForm s (DD s .next)
+
+abbrev pub CardEnd : List ℕ → List ℤ → CardRead → List ℤ → Type 0
+CardEnd s b r l = (r ≡ cardResult (parse s) (length b)) × (l ≡ soilResult (parse s) b)
+
+end-bad : (s : List ℕ) (b : List ℤ) (n : ℕ) (r : CardRead) → parse s ≡ badLine n → (n ≡ 0 → ⊥) → r ≡ refusedCard 12 n → CardEnd s b r b
+end-bad s b n r p z e = (rw (p, ne-eqb n 0 z, e), rw (p, ne-eqb n 0 z))
+
+module _ (s : List ℕ) (b : List ℤ) (h : Counts) (eh : h ≡ countsOf s) (r : CardRead) where
+  pub end-head : h .ok ≡ false → r ≡ refusedCard 12 1 → CardEnd s b r b
+  end-head o e = end-bad s b 1 r p (omega arith) e
+    where
+      k : countsOf s .ok ≡ false
+      k = sym (ap (λ (x : Counts). x .ok) eh) ∙ o
+
+      p : parse s ≡ badLine 1
+      p = unfold parse in rw k
+
+  module _ (t : Taken) (et : t ≡ takenOf (depthsAt (h .delays) s (h .next))) (o1 : h .ok ≡ true) where
+    k1 : countsOf s .ok ≡ true
+    k1 = sym (ap (λ (x : Counts). x .ok) eh) ∙ o1
+
+    t′ : t ≡ takenOf (DD s)
+    t′ = rw eh at et
+
+    pub end-depths : t .ok ≡ false → r ≡ refusedCard 12 1 → CardEnd s b r b
+    end-depths o e = end-bad s b 1 r p (omega arith) e
+      where
+        k : DD s .ok ≡ false
+        k = sym (ap (λ (x : Taken). x .ok) t′) ∙ o
+
+        p : parse s ≡ badLine 1
+        p = unfold parse in rw (k1, k)
+
+    module _ (m : Ran) (em : m ≡ ranOf (manyAt (h .cells) soilForm s (t .next)) 0) (o2 : t .ok ≡ true) where
+      k2 : DD s .ok ≡ true
+      k2 = sym (ap (λ (x : Taken). x .ok) t′) ∙ o2
+
+      m′ : m ≡ ranOf (MM s) 0
+      m′ = rw (eh, t′) at em
+
+      pub end-soil : m .ok ≡ false → r ≡ refusedCard 12 (m .good + 2) → CardEnd s b r b
+      end-soil o e = end-bad s b (MM s .good + 2) r p (omega arith) (e ∙ ap (λ (n : ℕ). refusedCard 12 (n + 2)) g)
+        where
+          k : MM s .ok ≡ false
+          k = sym (ap (λ (x : Ran). x .ok) m′) ∙ o
+
+          g : m .good ≡ MM s .good
+          g = ap (λ (x : Ran). x .good) m′ ∙ omega arith
+
+          p : parse s ≡ badLine (MM s .good + 2)
+          p = unfold parse in rw (k1, k2, k)
+
+      fine : m .ok ≡ true → parse s ≡ record { line = 0; next = m .next; card = cardOf h (DD s .vals); soil = MM s .vals }
+      unfolding parse
+      fine o =
+          let k : MM s .ok ≡ true = sym (ap (λ (x : Ran). x .ok) m′) ∙ o in
+          rw (k1, k2, k, eh, m′)
+
+      pub end-short : m .ok ≡ true → length b < h .cells * 5 → r ≡ refusedCard 2 0 → CardEnd s b r b
+      end-short o l e = (rw (fine o, lt-ltb _ _ l, e), rw (fine o, lt-ltb _ _ l))
+
+      pub end-good : (ds : List ℕ) (v z w l : List ℤ) → m .ok ≡ true → h .cells * 5 ≤ length b → v ≡ sets (replicate 30 (pos 0)) 0 (depthsAt (h .delays) s (h .next) .vals)
+          → w ≡ sets z 0 (manyAt (h .cells) soilForm s (t .next) .vals) → length z ≡ 1280 → h .cells ≤ 256 → ds ≡ map wordOf v → l ≡ take (h .cells * 5) w ++ drop (h .cells * 5) b
+          → CardEnd s b (record { number = 0; taken = m .next; line = 0; card = record { cells = h .cells; delays = h .delays; depths = ds } }) l
+      end-good ds v z w l o q ev ew lz lc ed el =
+          let k : MM s .ok ≡ true = sym (ap (λ (x : Ran). x .ok) m′) ∙ o in
+          let ew′ : w ≡ sets z 0 (MM s .vals) = rw (eh, t′) at ew in
+          let ln : length (MM s .vals) ≡ countsOf s .cells * 5 = many-length (countsOf s .cells) soilForm s (DD s .next) k in
+          let hc : h .cells ≡ countsOf s .cells = ap (λ (x : Counts). x .cells) eh in
+          let wt : take (h .cells * 5) w ≡ MM s .vals =
+          rw (ew′, sets-eq (MM s .vals) z 0 (omega arith)) (take-at (MM s .vals) (drop (0 + length (MM s .vals)) z) (h .cells * 5) (omega arith)) in
+          (rw (fine o, le-ltb _ _ q, ed, ev, eh), rw (fine o, le-ltb _ _ q) (el ∙ ap (λ (x : List ℤ). x ++ drop (h .cells * 5) b) wt))

@@ -1,0 +1,390 @@
+-- Each card has one text, and what was written is read back.
+use mathlib.Core.Path.{_≡_, refl, sym, ap, _∙_}
+use mathlib.Core.List.{List, [], _∷_, _++_, map, append-assoc, append-nil}
+use mathlib.Core.Bool.{Bool, true, false, cond, _&&_, false≢true}
+use Prim.Native.Nat.{ℕ, zero, suc, _+_, _-_, _*_, _≤_, _<_}
+use native.Mathlib.Omega.{arith}
+use lib.ListN.{length, take, drop, getD, set, replicate, length-map, length-append, length-take, length-drop, take-append-drop}
+use lib.Seq.{sets, sets-eq, take-at, take-all, append-snoc, drop-cons, length-take-le}
+use lib.Dec.{ltb, eqb}
+use lib.IntN.{ℤ, pos}
+use borrow.Author.Tests.{lt-ltb, le-ltb, eq-eqb, ne-eqb, ltb-true, ltb-false, eqb-true, eqb-false}
+use Rattle.text.specs.declared.Written.{Written}
+use native.Mathlib.Numerals.{add-one}
+use Rattle.text.specs.declared.card.Counts.{Counts}
+use Rattle.cell.specs.declared.Card.{Card}
+use Rattle.form.specs.Form.{Out, formAt, formText, byteAt, marks, okVals}
+use Rattle.form.specs.FormLaws.{FormRead, form-one, form-back, ok-length, ok-words, plain, parted, read, unword, cells-take, take-byte, byte-is, byte-seam, small-oks, smallZ, allSmall, and-i, and-1, and-2}
+use Rattle.form.specs.Many.{Run, manyAt, rowsText, okRows, rowsFit}
+use Rattle.form.specs.RunLaws.{many-length}
+use Rattle.form.specs.DecLaws.{stops}
+use Rattle.form.specs.ManyLaws.{RowsRead, many-one, many-back, ran, rows-fit, rows-front}
+use Rattle.form.specs.Words.{wordOf}
+use Rattle.text.specs.Lines.{cardForm, depthForm, soilForm}
+use Rattle.text.specs.Cards.{noCounts, rangeCounts, countsOf, countsOfOut, depthsAt, ended, cardOf, noCard, Parsed, badLine, parsedOf, parse, cardText, cardParts, allZero, given, cardWritten, cardBuffer}
+use Rattle.text.specs.Written.{noText}
+use Rattle.text.specs.ReadingLaws.{write-short, write-fits}
+use Rattle.form.specs.Put.{sets-step}
+
+map-app : {A B : Type 0} (g : A → B) (a b : List A) → map g (a ++ b) ≡ map g a ++ map g b
+map-app g [] b = refl
+map-app g (x ∷ a) b = rw (map-app g a b)
+
+map-two : (vs : List ℤ) → map pos (map wordOf vs) ≡ map unword vs
+map-two [] = refl
+map-two (z ∷ vs) = rw (map-two vs)
+
+rows-words : (n : ℕ) (f : List ℕ) (vs : List ℤ) → plain f ≡ true → okRows n f vs ≡ true → map unword vs ≡ vs
+unfolding okRows
+rows-words zero f [] p o = refl
+rows-words zero f (z ∷ zs) p o = absurd (false≢true o)
+rows-words (suc n) f vs p o =
+    let a : List ℤ = take (marks f) vs in
+    let b : List ℤ = drop (marks f) vs in
+    let x : map unword a ≡ a = ok-words f a p (and-1 (okVals f a) (okRows n f b) o) in
+    let y : map unword b ≡ b = rows-words n f b p (and-2 (okVals f a) (okRows n f b) o) in
+    let e : a ++ b ≡ vs = take-append-drop (marks f) vs in
+    ap (map unword) (sym e) ∙ map-app unword a b ∙ rw (x, y) e
+
+-- ---- the first line
+range-ok : (n a b : ℕ) → rangeCounts n a b .ok ≡ true → (rangeCounts n a b ≡ record { ok = true; next = n; cells = a; delays = b }) × (1 ≤ a) × (a ≤ 256) × (b ≤ 30)
+unfolding rangeCounts
+range-ok n a b e = go (ltb a 1) refl (ltb 256 a) refl (ltb 30 b) refl
+  where
+    go : (x : Bool) → ltb a 1 ≡ x → (y : Bool) → ltb 256 a ≡ y → (z : Bool) → ltb 30 b ≡ z
+        → (rangeCounts n a b ≡ record { ok = true; next = n; cells = a; delays = b }) × (1 ≤ a) × (a ≤ 256) × (b ≤ 30)
+    go true p y q z r = absurd (false≢true (rw p at e))
+    go false p true q z r = absurd (false≢true (rw (p, q) at e))
+    go false p false q true r = absurd (false≢true (rw (p, q, r) at e))
+    go false p false q false r = (rw (p, q, r), ltb-false a 1 p, ltb-false 256 a q, ltb-false 30 b r)
+
+pub record CountsRead (s : List ℕ) (h : Counts) : Type 0 where
+  pub text : take (h .next) s ≡ formText cardForm (pos (h .cells) ∷ pos (h .delays) ∷ [])
+  pub room : h .next ≤ length s
+  pub some : 1 ≤ h .cells
+  pub most : h .cells ≤ 256
+  pub few : h .delays ≤ 30
+
+head-one : (s : List ℕ) → countsOf s .ok ≡ true → CountsRead s (countsOf s)
+unfolding countsOf
+head-one s e = go (formAt cardForm s 0 .ok) refl
+  where
+    o : Out
+    o = formAt cardForm s 0
+
+    a : ℕ
+    a = wordOf (getD (o .vals) 0 (pos 0))
+
+    b : ℕ
+    b = wordOf (getD (o .vals) 1 (pos 0))
+
+    go : (x : Bool) → o .ok ≡ x → CountsRead s (countsOf s)
+    go false k = absurd (false≢true (rw k at e))
+    go true k =
+        let r = form-one cardForm s 0 refl (omega arith) k in
+        let (g, l, m, d) = range-ok (o .next) a b (rw k at e) in
+        let n : length (o .vals) ≡ 2 = ok-length cardForm (o .vals) (r .fits) in
+        let v : _≡_ {A = List ℤ} (pos a ∷ pos b ∷ []) (o .vals) =
+        ap (map unword) (cells-take 2 0 (o .vals) (omega arith) ∙ take-all 2 (o .vals) (omega arith)) ∙ ok-words cardForm (o .vals) refl (r .fits) in
+        rw (k, g) (record { text = rw v (r .text); room = r .room; some = l; most = m; few = d })
+
+-- ---- the depths and the line's end
+pub record EndRead (n : ℕ) (s : List ℕ) (at : ℕ) (o : Out) : Type 0 where
+  pub text : take (o .next) s ≡ take at s ++ (rowsText n depthForm (o .vals) ++ (10 ∷ []))
+  pub room : o .next ≤ length s
+  pub fits : okRows n depthForm (o .vals) ≡ true
+  pub count : length (o .vals) ≡ n
+
+depths-one : (n : ℕ) (s : List ℕ) (at : ℕ) → at ≤ length s → depthsAt n s at .ok ≡ true → EndRead n s at (depthsAt n s at)
+unfolding depthsAt
+depths-one n s at l e = go (manyAt n depthForm s at .ok) refl (eqb (byteAt s (manyAt n depthForm s at .next)) 10) refl
+  where
+    d : Run
+    d = manyAt n depthForm s at
+
+    go : (x : Bool) → d .ok ≡ x → (y : Bool) → eqb (byteAt s (d .next)) 10 ≡ y → EndRead n s at (depthsAt n s at)
+    go false k y g = absurd (false≢true (rw k at e))
+    go true k false g = absurd (false≢true (rw (k, g) at e))
+    go true k true g =
+        let r = many-one n depthForm s at refl l k in
+        let b : byteAt s (d .next) ≡ 10 = eqb-true (byteAt s (d .next)) 10 g in
+        let c : length (d .vals) ≡ n * 1 = many-length n depthForm s at k in
+        rw (k, g) (record {
+          text = take-byte s (d .next) 10 (omega arith) b ∙ ap (λ (x : List ℕ). x ++ (10 ∷ [])) (r .text) ∙ append-assoc (take at s) (rowsText n depthForm (d .vals)) (10 ∷ []);
+          room = byte-is s (d .next) 10 (omega arith) b .0;
+          fits = r .fits;
+          count = omega arith;
+        })
+
+-- the depths of a card come back from it
+kept-depths : (n : ℕ) (vs : List ℤ) → okRows n depthForm vs ≡ true → length vs ≡ n → n ≤ 30
+    → map pos (take n (map wordOf (sets (replicate 30 (pos 0)) 0 vs))) ≡ vs
+kept-depths n vs o c l =
+    let z : List ℤ = replicate 30 (pos 0) in
+    let e : sets z 0 vs ≡ vs ++ drop (0 + length vs) z = sets-eq vs z 0 (omega arith) in
+    rw (e, map-app wordOf vs (drop (0 + length vs) z), take-at (map wordOf vs) (map wordOf (drop (0 + length vs) z)) n (length-map vs wordOf ∙ c))
+    (map-two vs ∙ rows-words n depthForm vs refl o)
+
+-- what is read as a card is the card's one text
+pub card-one : (s : List ℕ) → parse s .line ≡ 0 → take (parse s .next) s ≡ cardText (parse s .card) (parse s .soil)
+unfolding parse cardText
+card-one s e = go (countsOf s .ok) refl (depthsAt (countsOf s .delays) s (countsOf s .next) .ok) refl (manyAt (countsOf s .cells) soilForm s (depthsAt (countsOf s .delays) s (countsOf s .next) .next) .ok) refl
+  where
+    h : Counts
+    h = countsOf s
+
+    d : Out
+    d = depthsAt (h .delays) s (h .next)
+
+    m : Run
+    m = manyAt (h .cells) soilForm s (d .next)
+
+    go : (x : Bool) → h .ok ≡ x → (y : Bool) → d .ok ≡ y → (z : Bool) → m .ok ≡ z → take (parse s .next) s ≡ cardText (parse s .card) (parse s .soil)
+    go false k y l z n = absurd (let q : 1 ≡ 0 = rw k at e in omega arith)
+    go true k false l z n = absurd (let q : 1 ≡ 0 = rw (k, l) at e in omega arith)
+    go true k true l false n = absurd (let q : m .good + 2 ≡ 0 = rw (k, l, n) at e in omega arith)
+    go true k true l true n =
+        let hr = head-one s k in
+        let dr = depths-one (h .delays) s (h .next) (hr .room) l in
+        let mr = many-one (h .cells) soilForm s (d .next) refl (dr .room) n in
+        let a : List ℕ = formText cardForm (pos (h .cells) ∷ pos (h .delays) ∷ []) in
+        let b : List ℕ = rowsText (h .delays) depthForm (d .vals) in
+        let c : List ℕ = rowsText (h .cells) soilForm (m .vals) in
+        rw (k, l, n, kept-depths (h .delays) (d .vals) (dr .fits) (dr .count) (hr .few))
+        (mr .text ∙ ap (λ (x : List ℕ). x ++ c) (dr .text ∙ ap (λ (x : List ℕ). x ++ (b ++ (10 ∷ []))) (hr .text))
+        ∙ append-assoc a (b ++ (10 ∷ [])) c ∙ ap (λ (x : List ℕ). a ++ x) (append-snoc b 10 c))
+
+-- ---- what was written is read back
+-- a card that a text gives, with its soil numbers
+pub record CardFits (c : Card) (soil : List ℤ) : Type 0 where
+  pub some : 1 ≤ c .cells
+  pub most : c .cells ≤ 256
+  pub few : c .delays ≤ 30
+  pub depths : okRows (c .delays) depthForm (map pos (take (c .delays) (c .depths))) ≡ true
+  pub unused : map wordOf (sets (replicate 30 (pos 0)) 0 (map pos (take (c .delays) (c .depths)))) ≡ c .depths
+  pub rows : okRows (c .cells) soilForm soil ≡ true
+
+rows-stop : (n : ℕ) (vs : List ℤ) (x : List ℕ) → stops (rowsText n depthForm vs ++ (10 ∷ x)) ≡ true
+unfolding rowsText formText
+rows-stop zero vs x = refl
+rows-stop (suc n) vs x = refl
+
+depth-parted : (vs : List ℤ) (x : List ℕ) → parted depthForm (formText depthForm vs ++ x) ≡ true
+unfolding formText
+depth-parted vs x = refl
+
+module _ (c : Card) (soil : List ℤ) (q : List ℕ) (ok : CardFits c soil) where
+  abbrev ta : List ℕ
+  ta = formText cardForm (pos (c .cells) ∷ pos (c .delays) ∷ [])
+
+  abbrev vd : List ℤ
+  vd = map pos (take (c .delays) (c .depths))
+
+  abbrev tb : List ℕ
+  tb = rowsText (c .delays) depthForm vd
+
+  abbrev tc : List ℕ
+  tc = rowsText (c .cells) soilForm soil
+
+  abbrev whole : List ℕ
+  whole = (ta ++ (tb ++ (10 ∷ tc))) ++ q
+
+  as-head : whole ≡ ta ++ (tb ++ (10 ∷ (tc ++ q)))
+  as-head = append-assoc ta (tb ++ (10 ∷ tc)) q ∙ ap (λ (x : List ℕ). ta ++ x) (append-assoc tb (10 ∷ tc) q)
+
+  as-end : whole ≡ (ta ++ tb) ++ (10 ∷ (tc ++ q))
+  as-end = as-head ∙ sym (append-assoc ta tb (10 ∷ (tc ++ q)))
+
+  as-soil : whole ≡ ((ta ++ tb) ++ (10 ∷ [])) ++ (tc ++ q)
+  as-soil = as-end ∙ sym (append-snoc (ta ++ tb) 10 (tc ++ q))
+
+  read-head : countsOf whole ≡ record { ok = true; next = length ta; cells = c .cells; delays = c .delays }
+  unfolding countsOf rangeCounts
+  read-head =
+      let p : c .cells < 4294967296 = omega (arith, ok .most) in
+      let r : c .delays < 4294967296 = omega (arith, ok .few) in
+      let f = form-back cardForm (pos (c .cells) ∷ pos (c .delays) ∷ []) [] (tb ++ (10 ∷ (tc ++ q)))
+      (small-oks cardForm (pos (c .cells) ∷ pos (c .delays) ∷ []) refl (and-i _ _ (lt-ltb _ _ p) (and-i _ _ (lt-ltb _ _ r) refl)) refl)
+      (and-i (stops (tb ++ (10 ∷ (tc ++ q)))) true (rows-stop (c .delays) vd (tc ++ q)) refl) in
+      let z : 0 + length ta ≡ length ta = omega arith in
+      rw (as-head, f, z, lt-ltb (c .cells) 4294967296 p, lt-ltb (c .delays) 4294967296 r, le-ltb (c .cells) 1 (ok .some), le-ltb 256 (c .cells) (ok .most), le-ltb 30 (c .delays) (ok .few))
+
+  read-depths : depthsAt (c .delays) whole (length ta) ≡ read (suc (length ta + length tb)) vd
+  unfolding depthsAt
+  read-depths =
+      let m : manyAt (c .delays) depthForm whole (length ta) ≡ ran (c .delays) (length ta + length tb) vd =
+      rw as-head (many-back depthForm (10 ∷ (tc ++ q)) depth-parted refl (c .delays) vd ta (ok .depths)) in
+      let l : length (ta ++ tb) ≡ length ta + length tb = length-append ta tb in
+      let b : byteAt whole (length ta + length tb) ≡ 10 = rw (as-end, ← l) (byte-seam (ta ++ tb) 10 (tc ++ q)) in
+      rw (m, b)
+
+  read-soil : manyAt (c .cells) soilForm whole (suc (length ta + length tb)) ≡ ran (c .cells) (suc (length ta + length tb) + length tc) soil
+  read-soil =
+      let l : length ((ta ++ tb) ++ (10 ∷ [])) ≡ suc (length ta + length tb) = simp length-append (omega arith) in
+      rw (as-soil, ← l) (many-back soilForm q (λ vs x. refl) refl (c .cells) soil ((ta ++ tb) ++ (10 ∷ [])) (ok .rows))
+
+  whole-length : suc (length ta + length tb) + length tc ≡ length (ta ++ (tb ++ (10 ∷ tc)))
+  whole-length = simp length-append (omega arith)
+
+-- the text of a card is read back, whatever bytes stand behind it
+pub card-back : (c : Card) (soil : List ℤ) (q : List ℕ) → CardFits c soil
+    → parse (cardText c soil ++ q) ≡ record { line = 0; next = length (cardText c soil); card = c; soil = soil }
+unfolding parse cardText
+card-back c soil q ok =
+    rw (read-head c soil q ok, read-depths c soil q ok, read-soil c soil q ok, ok .unused)
+    (ap (λ (n : ℕ). record { line = 0; next = n; card = c; soil = soil }) (whole-length c soil q ok))
+
+-- ---- writing
+pub parts-length : (h : List ℤ) (m : ℕ) (ds : List ℤ) (n : ℕ) (soil : List ℤ)
+    → length (cardParts h m ds n soil) ≡ length (formText cardForm h) + (length (rowsText m depthForm ds) + suc (length (rowsText n soilForm soil)))
+unfolding cardParts
+parts-length h m ds n soil = simp length-append
+
+pub parts-put : (h : List ℤ) (m : ℕ) (ds : List ℤ) (n : ℕ) (soil : List ℤ) (b0 b1 b2 b3 : List ℕ) (a i : ℕ)
+    → b1 ≡ sets b0 0 (formText cardForm h) → a ≡ 0 + length (formText cardForm h)
+    → b2 ≡ sets b1 a (rowsText m depthForm ds) → i ≡ a + length (rowsText m depthForm ds)
+    → b3 ≡ sets (set b2 i 10) (i + 1) (rowsText n soilForm soil)
+    → b3 ≡ sets b0 0 (cardParts h m ds n soil)
+unfolding cardParts
+parts-put h m ds n soil b0 b1 b2 b3 a i e1 ea e2 ei e3 =
+    let r : List ℕ = rowsText n soilForm soil in
+    (rw (add-one i) at e3)
+    ∙ sets-step b1 a (rowsText m depthForm ds) (10 ∷ r) e2 ei refl
+    ∙ sets-step b0 0 (formText cardForm h) (rowsText m depthForm ds ++ (10 ∷ r)) e1 ea refl
+
+pub vals-turn : (v : List ℤ) (d : List ℕ) (k : ℕ) (z : ℤ) → k < length d → z ≡ pos (getD d k 0)
+    → sets v k (map pos (drop k d)) ≡ sets (set v k z) (k + 1) (map pos (drop (k + 1) d))
+vals-turn v d k z h e = rw (add-one k, drop-cons d k 0 h, e)
+
+pub given-range : (c : Card) → given c ≡ true → (c .cells ≤ 256) × (c .delays ≤ 30)
+unfolding given
+given-range c e = go (ltb (c .cells) 1) refl (ltb 256 (c .cells)) refl (ltb 30 (c .delays)) refl
+  where
+    go : (x : Bool) → ltb (c .cells) 1 ≡ x → (y : Bool) → ltb 256 (c .cells) ≡ y → (z : Bool) → ltb 30 (c .delays) ≡ z → (c .cells ≤ 256) × (c .delays ≤ 30)
+    go true p y q z r = absurd (false≢true (rw p at e))
+    go false p true q z r = absurd (false≢true (rw (p, q) at e))
+    go false p false q true r = absurd (false≢true (rw (p, q, r) at e))
+    go false p false q false r = (ltb-false 256 (c .cells) q, ltb-false 30 (c .delays) r)
+
+parts-text : (c : Card) (soil : List ℤ) → c .delays ≤ length (c .depths)
+    → cardParts (pos (c .cells) ∷ pos (c .delays) ∷ []) (c .delays) (map pos (c .depths)) (c .cells) soil ≡ cardText c soil
+unfolding cardParts cardText
+parts-text c soil h =
+    let m : ℕ = c .delays in
+    let a : List ℕ = take m (c .depths) in
+    let b : List ℕ = drop m (c .depths) in
+    let l : length (map pos a) ≡ m * 1 = length-map a pos ∙ length-take-le m (c .depths) h ∙ omega arith in
+    let e : map pos (c .depths) ≡ map pos a ++ map pos b = ap (map pos) (sym (take-append-drop m (c .depths))) ∙ map-app pos a b in
+    ap (λ (x : List ℕ). formText cardForm (pos (c .cells) ∷ pos (c .delays) ∷ []) ++ (x ++ (10 ∷ rowsText (c .cells) soilForm soil)))
+    (ap (rowsText m depthForm) e ∙ rows-front m depthForm (map pos a) (map pos b) l)
+
+module _ (c : Card) (soil : List ℤ) (b : List ℕ) where
+  abbrev pub Wrote : Written → List ℕ → Type 0
+  Wrote r l =
+      (r ≡ cardWritten (given c) (eqb (length soil) (c .cells * 5)) (okRows (c .cells) soilForm soil) (cardText c soil) b)
+      × (l ≡ cardBuffer (given c) (eqb (length soil) (c .cells * 5)) (okRows (c .cells) soilForm soil) (cardText c soil) b)
+
+  pub wrote-none : given c ≡ false → Wrote (noText 12) b
+  wrote-none g = (rw g, rw g)
+
+  module _ (g : given c ≡ true) where
+    pub wrote-long : (length soil ≡ c .cells * 5 → ⊥) → Wrote (noText 2) b
+    wrote-long h = (rw (g, ne-eqb _ _ h), rw (g, ne-eqb _ _ h))
+
+    module _ (h : length soil ≡ c .cells * 5) where
+      ok-is : okRows (c .cells) soilForm soil ≡ rowsFit (c .cells) soilForm soil
+      ok-is = rows-fit (c .cells) soilForm soil h
+
+      pub wrote-odd : rowsFit (c .cells) soilForm soil ≡ false → Wrote (noText 12) b
+      wrote-odd f = (rw (g, eq-eqb _ _ h, ok-is, f), rw (g, eq-eqb _ _ h, ok-is, f))
+
+      module _ (f : rowsFit (c .cells) soilForm soil ≡ true) (d : c .delays ≤ length (c .depths)) (n : ℕ)
+          (e : n ≡ length (cardParts (pos (c .cells) ∷ pos (c .delays) ∷ []) (c .delays) (map pos (c .depths)) (c .cells) soil)) where
+        e′ : n ≡ length (cardText c soil)
+        e′ = e ∙ ap length (parts-text c soil d)
+
+        pub wrote-short : length b < n → Wrote (noText 12) b
+        wrote-short k =
+            let (x, y) = write-short (cardText c soil) b n e′ k in
+            (rw (g, eq-eqb _ _ h, ok-is, f) x, rw (g, eq-eqb _ _ h, ok-is, f) y)
+
+        pub wrote-all : (l : List ℕ) → n ≤ length b → l ≡ sets b 0 (cardParts (pos (c .cells) ∷ pos (c .delays) ∷ []) (c .delays) (map pos (c .depths)) (c .cells) soil)
+            → Wrote (record { number = 0; len = n }) l
+        wrote-all l k p =
+            let (x, y) = write-fits (cardText c soil) b l n e′ k (p ∙ ap (sets b 0) (parts-text c soil d)) in
+            (rw (g, eq-eqb _ _ h, ok-is, f) x, rw (g, eq-eqb _ _ h, ok-is, f) y)
+
+-- ---- what `write_card` accepts is read back
+zero-drop : (m : ℕ) (l : List ℕ) → allZero l ≡ true → allZero (drop m l) ≡ true
+unfolding allZero
+zero-drop zero l e = e
+zero-drop (suc m) [] e = e
+zero-drop (suc m) (x ∷ l) e = zero-drop m l (and-2 (eqb x 0) (allZero l) e)
+
+zero-same : (a b : List ℕ) → allZero a ≡ true → allZero b ≡ true → length a ≡ length b → a ≡ b
+unfolding allZero
+zero-same [] [] p q l = refl
+zero-same [] (y ∷ b) p q l = absurd (omega arith)
+zero-same (x ∷ a) [] p q l = absurd (omega arith)
+zero-same (x ∷ a) (y ∷ b) p q l =
+    let e : x ≡ 0 = eqb-true x 0 (and-1 (eqb x 0) (allZero a) p) in
+    let g : y ≡ 0 = eqb-true y 0 (and-1 (eqb y 0) (allZero b) q) in
+    rw (e, g, zero-same a b (and-2 (eqb x 0) (allZero a) p) (and-2 (eqb y 0) (allZero b) q) (omega arith))
+
+map-drop : (m : ℕ) (vs : List ℤ) → map wordOf (drop m vs) ≡ drop m (map wordOf vs)
+map-drop zero vs = refl
+map-drop (suc m) [] = refl
+map-drop (suc m) (z ∷ vs) = map-drop m vs
+
+small-take : (m : ℕ) (ds : List ℕ) → allSmall (map pos ds) ≡ true → allSmall (map pos (take m ds)) ≡ true
+small-take zero ds e = refl
+small-take (suc m) [] e = refl
+small-take (suc m) (x ∷ ds) e =
+    and-i (ltb x 4294967296) (allSmall (map pos (take m ds))) (and-1 (ltb x 4294967296) (allSmall (map pos ds)) e) (small-take m ds (and-2 (ltb x 4294967296) (allSmall (map pos ds)) e))
+
+small-back : (ds : List ℕ) → allSmall (map pos ds) ≡ true → map wordOf (map pos ds) ≡ ds
+small-back [] e = refl
+small-back (x ∷ ds) e =
+    rw (and-1 (ltb x 4294967296) (allSmall (map pos ds)) e, small-back ds (and-2 (ltb x 4294967296) (allSmall (map pos ds)) e))
+
+depth-rows : (vs : List ℤ) → allSmall vs ≡ true → okRows (length vs) depthForm vs ≡ true
+unfolding okRows
+depth-rows [] e = refl
+depth-rows (z ∷ vs) e =
+    and-i (okVals depthForm (z ∷ [])) (okRows (length vs) depthForm vs)
+    (small-oks depthForm (z ∷ []) refl (and-i (smallZ z) true (and-1 (smallZ z) (allSmall vs) e) refl) refl)
+    (depth-rows vs (and-2 (smallZ z) (allSmall vs) e))
+
+given-parts : (c : Card) → given c ≡ true → (1 ≤ c .cells) × (allZero (drop (c .delays) (c .depths)) ≡ true)
+unfolding given
+given-parts c e = go (ltb (c .cells) 1) refl (ltb 256 (c .cells)) refl (ltb 30 (c .delays)) refl
+  where
+    go : (x : Bool) → ltb (c .cells) 1 ≡ x → (y : Bool) → ltb 256 (c .cells) ≡ y → (z : Bool) → ltb 30 (c .delays) ≡ z → (1 ≤ c .cells) × (allZero (drop (c .delays) (c .depths)) ≡ true)
+    go true p y q z r = absurd (false≢true (rw p at e))
+    go false p true q z r = absurd (false≢true (rw (p, q) at e))
+    go false p false q true r = absurd (false≢true (rw (p, q, r) at e))
+    go false p false q false r = (ltb-false (c .cells) 1 p, rw (p, q, r) at e)
+
+pub card-fits : (c : Card) (soil : List ℤ) → given c ≡ true → okRows (c .cells) soilForm soil ≡ true → length (c .depths) ≡ 30 → allSmall (map pos (c .depths)) ≡ true → CardFits c soil
+card-fits c soil g o l a =
+    let (mo, fe) = given-range c g in
+    let (so, ze) = given-parts c g in
+    let m : ℕ = c .delays in
+    let t : List ℕ = take m (c .depths) in
+    let at : allSmall (map pos t) ≡ true = small-take m (c .depths) a in
+    let lt : length t ≡ m = length-take-le m (c .depths) (omega arith) in
+    let lv : length (map pos t) ≡ m = length-map t pos ∙ lt in
+    let z : List ℤ = replicate 30 (pos 0) in
+    let r : List ℤ = drop (0 + length (map pos t)) z in
+    let e : sets z 0 (map pos t) ≡ map pos t ++ r = sets-eq (map pos t) z 0 (omega arith) in
+    let k : map wordOf r ≡ drop m (c .depths) =
+    zero-same (map wordOf r) (drop m (c .depths)) (rw (map-drop (0 + length (map pos t)) z) (zero-drop (0 + length (map pos t)) (map wordOf z) (unfold allZero in refl))) ze
+    (length-map r wordOf ∙ length-drop (0 + length (map pos t)) z ∙ (omega arith) ∙ sym (length-drop m (c .depths))) in
+    record {
+      some = so;
+      most = mo;
+      few = fe;
+      depths = rw lv at (depth-rows (map pos t) at);
+      unused = rw (e, map-app wordOf (map pos t) r, small-back t at, k) (take-append-drop m (c .depths));
+      rows = o;
+    }

@@ -1,0 +1,73 @@
+-- Document 01's example, line by line, computed over the definitions; and texts that are malformed. Assumes nothing.
+use mathlib.Core.Path.{_≡_, refl}
+use mathlib.Core.List.{List, [], _∷_}
+use Prim.Native.Nat.{ℕ}
+use Prim.Native.String.{String}
+use lib.IntN.{ℤ, pos, negsuc}
+use lib.Ieee.{binary32, ofBits, toBits}
+use lib.ListN.{length, replicate}
+use Rattle.head.specs.Pattern.{carriedOf, patternOf}
+use Rattle.form.specs.Bytes.{bytes}
+use Rattle.form.specs.Dec.{dec, decF, numAt, numStart, numGo}
+use Rattle.form.specs.Hex.{hex, hexAt, hexGo}
+use Rattle.form.specs.Form.{byteAt, valAt, valText, formAt, formText}
+use Rattle.form.specs.Many.{manyAt, rowsText}
+use Rattle.cell.specs.declared.Amounts.{Amounts}
+use Rattle.cell.specs.declared.Answer.{Answer}
+use Rattle.cell.specs.declared.Answer.the-variants.{Accepted, Refused}
+use Rattle.cell.specs.declared.Card.{Card}
+use Rattle.cell.specs.declared.Reading.{Reading}
+use Rattle.cell.specs.declared.Refusal.the-variants.{Old}
+use Rattle.cell.specs.Water.{water, net}
+use Rattle.site.specs.declared.Sheet.{Sheet}
+use Rattle.text.specs.Readings.{readReading, textOf}
+use Rattle.text.specs.Cards.{parse, countsOf, rangeCounts, depthsAt, cardText, Parsed}
+use Rattle.text.specs.Printed.{answerText, sheetText}
+
+-- the card
+pub card : Card
+card = record { cells = 1; delays = 2; depths = 1000000 ∷ 2000000 ∷ replicate 28 0 }
+
+pub soil : List ℤ
+soil = pos 10000000 ∷ pos 1500000 ∷ pos 200 ∷ pos 100000 ∷ pos 80 ∷ []
+
+pub card-line : List ℕ
+card-line = bytes "cells=1 delays=2 depth=1000000 depth=2000000\ntop=10000000 etdepth=1500000 vadpor=200 leak=100000 cn=80\n"
+
+pub card-text : cardText card soil ≡ card-line
+unfolding card soil card-line cardText formText rowsText valText dec decF
+card-text = refl
+
+pub card-read : (parse card-line .line ≡ 0) × (parse card-line .card ≡ card) × (parse card-line .soil ≡ soil)
+unfolding card soil card-line parse countsOf rangeCounts depthsAt manyAt formAt valAt byteAt numAt numStart numGo hexAt hexGo
+card-read = (refl, refl, refl)
+
+-- the first reading
+pub reading-line : List ℕ
+reading-line = bytes "cell=0 life=0 count=0 rain=50800 irrig=0 septic=1000 etmin=2000 pet=5000 amc=2 head=410c0000\n"
+
+pub reading-read : readReading reading-line .reading
+    ≡ record { cell = 0; life = 0; count = 0; rain = 50800; irrig = 0; septic = 1000; etmin = 2000; pet = 5000; amc = 2; head = carriedOf 0x410c0000 .value; nan = carriedOf 0x410c0000 .nan }
+unfolding reading-line readReading formAt valAt byteAt numAt numStart numGo hexAt hexGo
+reading-read = refl
+
+-- a leading zero, a minus before 0, and a number of 33 bits are malformed; a NaN's pattern is not
+abbrev number-of : String → ℕ
+number-of t = readReading (bytes t) .number
+
+pub malformed : (number-of "cell=0 life=00 count=0 rain=50800 irrig=0 septic=1000 etmin=2000 pet=5000 amc=2 head=410c0000\n" ≡ 12)
+    × (number-of "cell=-0 life=0 count=0 rain=50800 irrig=0 septic=1000 etmin=2000 pet=5000 amc=2 head=410c0000\n" ≡ 12)
+    × (number-of "cell=0 life=0 count=0 rain=4294967296 irrig=0 septic=1000 etmin=2000 pet=5000 amc=2 head=410c0000\n" ≡ 12)
+    × (number-of "cell=0 life=0 count=0 rain=50800 irrig=0 septic=1000 etmin=2000 pet=5000 amc=2 head=410C0000\n" ≡ 12)
+    × (number-of "cell=0 life=0 count=0 rain=4294967295 irrig=0 septic=1000 etmin=2000 pet=5000 amc=2 head=7fc00001\n" ≡ 0)
+unfolding readReading formAt valAt byteAt numAt numStart numGo hexAt hexGo
+malformed = (refl, refl, refl, refl, refl)
+
+-- what the program prints: two answers and the sheet
+pub printed : (answerText 0 (Accepted (record { inflow = water 51800; runoff = water 14287; etvad = water 2000; etstor = water 0; etsat = water 500; drain = water 0; release = water 0; stored = water 34513; recharge = net (pos 500); left = water 34513 }))
+    ≡ bytes "cell=0 code=0 inflow=51800 runoff=14287 etvad=2000 etstor=0 etsat=500 drain=0 release=0 stored=34513 recharge=500 left=34513\n")
+    × (answerText 0 (Refused Old) ≡ bytes "cell=0 code=6 inflow=0 runoff=0 etvad=0 etstor=0 etsat=0 drain=0 release=0 stored=0 recharge=0 left=0\n")
+    × (sheetText (record { steps = 2; inflow = water 51800; runoff = water 14287; etvad = water 2000; etstor = water 0; etsat = water 1333; drain = water 0; release = water 34513; stored = water 34513; recharge = net (negsuc 53999) })
+    ≡ bytes "steps=2 inflow=51800 runoff=14287 etvad=2000 etstor=0 etsat=1333 drain=0 release=34513 stored=34513 recharge=-54000\n")
+unfolding answerText sheetText formText valText dec decF hex
+printed = (refl, refl, refl)

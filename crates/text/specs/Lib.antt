@@ -1,0 +1,11 @@
+-- Cards, readings, answers and the sheet as text.
+pub mod Lines
+pub mod Written
+pub mod Readings
+pub mod Cards
+pub mod Printed
+pub mod Cases
+-- laws of these
+pub mod ReadingLaws
+pub mod CardLaws
+pub mod CardTexts

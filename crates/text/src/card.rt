@@ -1,0 +1,290 @@
+// A card as text: one line, then a line per cell.
+ghost use mathlib.Core.Path.{_≡_};
+ghost use mathlib.Core.List.{[], _∷_, _++_, map};
+ghost use Prim.Native.Nat.{_+_, _*_, _≤_, _<_};
+ghost use lib.IntN.{pos};
+ghost use lib.ListN.{length, drop, take};
+ghost use lib.Seq.{sets};
+ghost use Rattle.form.specs.Form.{takenOf};
+ghost use Rattle.form.specs.Words.{wordOf};
+ghost use Rattle.text.specs.Cards.{rangeCounts, countsOf, depthsAt, refusedCard, parse, cardResult, soilResult, allZero, given, cardParts};
+ghost use Rattle.text.specs.CardTexts.{Wrote};
+use crate::Written;
+use cell::Card;
+use form::line::Taken;
+use form::line::form_len;
+use form::line::put_form;
+use form::line::read_form;
+use form::lines::many_len;
+use form::lines::put_many;
+use form::lines::read_many;
+use form::lines::rows_fit;
+use form::value::byte_at;
+use form::value::word_at;
+
+const CARD: [u8; 16] = *b"cells=# delays=#";
+
+const DEPTH: [u8; 8] = *b" depth=#";
+
+const SOIL: [u8; 37] = *b"top=$ etdepth=# vadpor=# leak=# cn=#\n";
+
+// What reading a card gives: its number, the bytes taken, the malformed line, the card.
+pub struct CardRead {
+    pub number: u32,
+    pub taken: usize,
+    pub line: usize,
+    pub card: Card,
+}
+
+// The first line's two counts.
+pub struct Counts {
+    pub ok: bool,
+    pub next: usize,
+    pub cells: u32,
+    pub delays: u32,
+}
+
+fn range_counts(next: usize, cells: u32, delays: u32) -> Counts
+    ensures { λ r. ⌜ r ≡ rangeCounts next cells delays ⌝ }
+{
+    let none = Counts {
+        ok: false,
+        next: 0,
+        cells: 0,
+        delays: 0,
+    };
+    if cells < 1 {
+        return none;
+    }
+    if 256 < cells {
+        return none;
+    }
+    if 30 < delays {
+        return none;
+    }
+    Counts {
+        ok: true,
+        next,
+        cells,
+        delays,
+    }
+}
+
+fn card_counts(s: &[u8]) -> Counts
+    ensures { λ r. ⌜ r ≡ countsOf (now (s .entry)) ⌝ }
+{
+    let mut v = [0i64; 2];
+    let t = read_form(s, 0, &CARD, &mut v, 0);
+    let ok = t.ok;
+    if ok {
+        return range_counts(t.next, word_at(&v, 0), word_at(&v, 1));
+    }
+    Counts {
+        ok: false,
+        next: 0,
+        cells: 0,
+        delays: 0,
+    }
+}
+
+// The n depths of the first line and its end, from `from` on.
+fn card_depths(s: &[u8], from: usize, n: usize, v: &mut [i64]) -> Taken
+    requires { ⌜ n ≤ length (now v) ⌝ }
+    ensures { λ r. ⌜ (r ≡ takenOf (depthsAt n (now (s .entry)) from))
+        × (now (v .exit) ≡ sets (now (v .entry)) 0 (depthsAt n (now (s .entry)) from .vals)) ⌝ }
+{
+    let d = read_many(s, from, &DEPTH, 1, n, v, 0);
+    let ok = d.ok;
+    if ok {
+        let at = d.next;
+        if byte_at(s, at) == 10 {
+            return Taken {
+                ok: true,
+                next: at + 1,
+            };
+        }
+    }
+    Taken { ok: false, next: 0 }
+}
+
+// Each value as 32 bits.
+fn to_depths(v: &[i64]) -> [u32; 30]
+    requires { ⌜ length (now v) ≡ 30 ⌝ }
+    ensures { λ r. ⌜ r ≡ map wordOf (now (v .entry)) ⌝ }
+{
+    let mut d = [0u32; 30];
+    let mut k: usize = 0;
+    while k < 30 {
+        d[k] = word_at(v, k);
+        k += 1;
+    }
+    d
+}
+
+fn refuse(number: u32, line: usize) -> CardRead
+    ensures { λ r. ⌜ r ≡ refusedCard number line ⌝ }
+{
+    CardRead {
+        number,
+        taken: 0,
+        line,
+        card: Card {
+            cells: 0,
+            delays: 0,
+            depths: [0u32; 30],
+        },
+    }
+}
+
+// Copies the first n values.
+fn copy_values(src: &[i64], n: usize, dst: &mut [i64])
+    requires { ⌜ (n ≤ length (now src)) × (n ≤ length (now dst)) ⌝ }
+    ensures { λ _. ⌜ now (dst .exit) ≡ take n (now (src .entry)) ++ drop n (now (dst .entry)) ⌝ }
+{
+    let mut k = 0;
+    while k < n {
+        dst[k] = src[k];
+        k += 1;
+    }
+}
+
+// Reads a card at the start of s, and fills the first 5 x cells numbers of soil where all of it is well formed.
+pub fn read(s: &[u8], soil: &mut [i64]) -> CardRead
+    ensures { λ r. ⌜ (r ≡ cardResult (parse (now (s .entry))) (length (now (soil .entry))))
+        × (now (soil .exit) ≡ soilResult (parse (now (s .entry))) (now (soil .entry))) ⌝ }
+{
+    let h = card_counts(s);
+    let ok = h.ok;
+    if ok {
+        let mut v = [0i64; 30];
+        let t = card_depths(s, h.next, h.delays as usize, &mut v);
+        let ended = t.ok;
+        if ended {
+            let n = h.cells as usize;
+            let mut w = [0i64; 1280];
+            let m = read_many(s, t.next, &SOIL, 5, n, &mut w, 0);
+            let good = m.ok;
+            if good {
+                if soil.len() < n * 5 {
+                    return refuse(2, 0);
+                }
+                copy_values(&w, n * 5, soil);
+                let depths = to_depths(&v);
+                return CardRead {
+                    number: 0,
+                    taken: m.next,
+                    line: 0,
+                    card: Card {
+                        cells: h.cells,
+                        delays: h.delays,
+                        depths,
+                    },
+                };
+            }
+            return refuse(12, m.good + 2);
+        }
+        return refuse(12, 1);
+    }
+    refuse(12, 1)
+}
+
+// Whether all numbers from `from` on are 0.
+fn zero_from(d: &[u32], from: usize) -> bool
+    ensures { λ r. ⌜ r ≡ allZero (drop from (now (d .entry))) ⌝ }
+{
+    let mut k = from;
+    while k < d.len() {
+        if d[k] == 0 {
+            k += 1;
+        } else {
+            return false;
+        }
+    }
+    true
+}
+
+// Each number as a value.
+fn depth_values(d: &[u32]) -> [i64; 30]
+    requires { ⌜ length (now d) ≡ 30 ⌝ }
+    ensures { λ r. ⌜ r ≡ map pos (now (d .entry)) ⌝ }
+{
+    let mut v = [0i64; 30];
+    let mut k: usize = 0;
+    while k < 30 {
+        v[k] = d[k] as i64;
+        k += 1;
+    }
+    v
+}
+
+fn count_values(cells: u32, delays: u32) -> [i64; 2]
+    ensures { λ r. ⌜ r ≡ pos cells ∷ pos delays ∷ [] ⌝ }
+{
+    [cells as i64, delays as i64]
+}
+
+// Whether some text gives the card.
+fn card_given(card: Card) -> bool
+    ensures { λ r. ⌜ r ≡ given card ⌝ }
+{
+    if card.cells < 1 {
+        return false;
+    }
+    if 256 < card.cells {
+        return false;
+    }
+    if 30 < card.delays {
+        return false;
+    }
+    let d = card.depths;
+    zero_from(&d, card.delays as usize)
+}
+
+// The length of a card's text: the first line's values h, m depths ds and n rows of soil.
+fn card_len(h: &[i64], m: usize, ds: &[i64], n: usize, soil: &[i64]) -> usize
+    requires { ⌜ (length (now h) ≡ 2) × (m ≤ 30) × (length (now ds) ≡ 30) × (n ≤ 256) × (length (now soil) ≡ n * 5) ⌝ }
+    ensures { λ r. ⌜ r ≡ length (cardParts (now (h .entry)) m (now (ds .entry)) n (now (soil .entry))) ⌝ }
+{
+    let a = form_len(&CARD, h, 0);
+    let b = many_len(&DEPTH, 1, m, ds, 0);
+    let c = many_len(&SOIL, 5, n, soil, 0);
+    a + b + 1 + c
+}
+
+// Writes a card's text at the start of buf.
+fn put_card(h: &[i64], m: usize, ds: &[i64], n: usize, soil: &[i64], buf: &mut [u8])
+    requires { ⌜ (length (now h) ≡ 2) × (m ≤ 30) × (length (now ds) ≡ 30) × (n ≤ 256) × (length (now soil) ≡ n * 5)
+        × (length (cardParts (now h) m (now ds) n (now soil)) ≤ length (now buf)) ⌝ }
+    ensures { λ _. ⌜ now (buf .exit) ≡ sets (now (buf .entry)) 0 (cardParts (now (h .entry)) m (now (ds .entry)) n (now (soil .entry))) ⌝ }
+{
+    let a = put_form(&CARD, h, 0, buf, 0);
+    let b = put_many(&DEPTH, 1, m, ds, 0, buf, a);
+    buf[b] = 10;
+    put_many(&SOIL, 5, n, soil, 0, buf, b + 1);
+}
+
+// Writes a card with its soil numbers at the start of buf.
+pub fn write(card: Card, soil: &[i64], buf: &mut [u8]) -> Written
+    ensures { λ w. ⌜ Wrote card (now (soil .entry)) (now (buf .entry)) w (now (buf .exit)) ⌝ }
+{
+    if card_given(card) {
+        let n = card.cells as usize;
+        if soil.len() == n * 5 {
+            if rows_fit(&SOIL, 5, n, soil, 0) {
+                let m = card.delays as usize;
+                let d = card.depths;
+                let h = count_values(card.cells, card.delays);
+                let ds = depth_values(&d);
+                let len = card_len(&h, m, &ds, n, soil);
+                if buf.len() < len {
+                    return Written { number: 12, len: 0 };
+                }
+                put_card(&h, m, &ds, n, soil, buf);
+                return Written { number: 0, len };
+            }
+            return Written { number: 12, len: 0 };
+        }
+        return Written { number: 2, len: 0 };
+    }
+    Written { number: 12, len: 0 }
+}
