@@ -1,4 +1,4 @@
--- The turns of reading a number, over the place i of the slice s.
+-- The turns of reading a number, over the place i of the slice s. Assumes nothing.
 use mathlib.Core.Path.{_≡_, refl, sym, ap, _∙_, subst}
 use mathlib.Core.List.{List, [], _∷_, _++_}
 use mathlib.Core.Bool.{Bool, true, false, cond, false≢true}

@@ -1,4 +1,4 @@
--- The turns of reading a form several times.
+-- The turns of reading a form several times. Assumes nothing.
 use mathlib.Core.Path.{_≡_, refl, sym, ap, _∙_}
 use mathlib.Core.List.{List, [], _∷_, _++_}
 use mathlib.Core.Bool.{Bool, true, false}

@@ -1,4 +1,4 @@
--- Decimal numbers: the one text of a number, and what reading a number at a place finds.
+-- Decimal numbers: the one text of a number, and what reading a number at a place finds. Definitions only.
 use Prim.Native.Nat.{ℕ, zero, suc, _+_, _-_, _*_, _/_, _%_}
 use mathlib.Core.List.{List, [], _∷_, _++_}
 use mathlib.Core.Bool.{Bool, true, false, cond}

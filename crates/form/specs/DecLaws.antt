@@ -1,4 +1,4 @@
--- Laws of decimal text: a number's text is read back, and what is read is the number's one text.
+-- Laws of decimal text: a number's text is read back, and what is read is the number's one text. Assumes nothing.
 use mathlib.Core.Path.{_≡_, refl, sym, ap, _∙_, subst}
 use mathlib.Core.List.{List, [], _∷_, _++_, append-assoc, append-nil}
 use mathlib.Core.Bool.{Bool, true, false, cond}

@@ -1,4 +1,4 @@
--- Laws of forms: a form's text is read back, and what is read is the form's one text.
+-- Laws of forms: a form's text is read back, and what is read is the form's one text. Assumes nothing.
 use mathlib.Core.Path.{_≡_, refl, sym, ap, _∙_, subst}
 use mathlib.Core.List.{List, [], _∷_, _++_, map, append-assoc, append-nil}
 use mathlib.Core.Bool.{Bool, true, false, cond, _&&_, false≢true}

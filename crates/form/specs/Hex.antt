@@ -1,4 +1,4 @@
--- Lowercase hex numbers of a fixed count of digits: the one text, and what reading one at a place finds.
+-- Lowercase hex numbers of a fixed count of digits: the one text, and what reading one at a place finds. Definitions only.
 use Prim.Native.Nat.{ℕ, zero, suc, _+_, _-_, _*_, _/_, _%_}
 use mathlib.Core.List.{List, [], _∷_, _++_}
 use mathlib.Core.Bool.{cond}

@@ -1,4 +1,4 @@
--- A form that stands several times, one behind the other.
+-- A form that stands several times, one behind the other. Definitions only.
 use mathlib.Core.Path.{_≡_, refl, sym, ap, _∙_}
 use mathlib.Core.List.{List, [], _∷_, _++_}
 use mathlib.Core.Bool.{Bool, true, false, cond, _&&_}

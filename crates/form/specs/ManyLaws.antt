@@ -1,4 +1,4 @@
--- Laws of a form that stands several times: its text is read back, and what is read is the one text.
+-- Laws of a form that stands several times: its text is read back, and what is read is the one text. Assumes nothing.
 use mathlib.Core.Path.{_≡_, refl, sym, ap, _∙_}
 use mathlib.Core.List.{List, [], _∷_, _++_, append-assoc, append-nil}
 use mathlib.Core.Bool.{Bool, true, false, cond, _&&_, false≢true}

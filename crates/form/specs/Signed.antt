@@ -1,4 +1,4 @@
--- Signed numbers and their sizes.
+-- Signed numbers and their sizes. Assumes nothing.
 use mathlib.Core.Path.{_≡_, refl, sym, ap}
 use mathlib.Core.Bool.{Bool, true, false, false≢true}
 use Prim.Native.Nat.{ℕ, zero, suc, _+_, _-_, _<_, _^_}

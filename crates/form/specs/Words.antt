@@ -1,4 +1,4 @@
--- Values as numbers of 32 bits.
+-- Values as numbers of 32 bits. Assumes nothing.
 use Prim.Native.Nat.{ℕ, _<_, _≤_}
 use mathlib.Core.Path.{_≡_, refl, sym}
 use native.Mathlib.Omega.{arith}

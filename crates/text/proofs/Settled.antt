@@ -22,7 +22,7 @@ pub card-read-settled : (κs : Lfts 2) (a : Dens κs card-read.ps) (r r' : resT 
 card-read-settled κs a r r' x x' p p' = (p .0 ∙ sym (p' .0), p .1 ∙ sym (p' .1))
 
 pub card-write-settled : (κs : Lfts 2) (a : Dens κs card-write.ps) (r r' : resT card-write.r κs .Denot) (x x' : AtExit (endedOf 2 card-write.ps card-write.r) κs) → card-write-reads.Post κs a r x → card-write-reads.Post κs a r' x' → (r ≡ r') × (now (x .1 .1 .0) ≡ now (x' .1 .1 .0))
-card-write-settled κs a r r' x x' p p' = (p .0 ∙ sym (p' .0), p .1 ∙ sym (p' .1))
+card-write-settled κs a r r' x x' p p' = (p .written ∙ sym (p' .written), p .buffer ∙ sym (p' .buffer))
 
 pub reading-read-settled : (κs : Lfts 1) (a : Dens κs reading-read.ps) (r r' : resT reading-read.r κs .Denot) (x x' : AtExit (endedOf 1 reading-read.ps reading-read.r) κs) → reading-read-reads.Post κs a r x → reading-read-reads.Post κs a r' x' → r ≡ r'
 reading-read-settled κs a r r' x x' p p' = p ∙ sym p'

@@ -1,4 +1,4 @@
--- Laws of cards as text.
+-- What `card::read` finds, part by part: the laws that its proof cites. Assumes nothing.
 use mathlib.Core.Path.{_≡_, refl, sym, ap, _∙_}
 use mathlib.Core.List.{List, [], _∷_, _++_, map}
 use mathlib.Core.Bool.{Bool, true, false, cond, false≢true}

@@ -1,14 +1,15 @@
--- Each card has one text, and what was written is read back.
+-- Each card has one text, and what was written is read back. Assumes nothing.
 use mathlib.Core.Path.{_≡_, refl, sym, ap, _∙_}
 use mathlib.Core.List.{List, [], _∷_, _++_, map, append-assoc, append-nil}
 use mathlib.Core.Bool.{Bool, true, false, cond, _&&_, false≢true}
 use Prim.Native.Nat.{ℕ, zero, suc, _+_, _-_, _*_, _≤_, _<_}
+use native.Mathlib.Nat.{sub-zero, zero-add}
 use native.Mathlib.Omega.{arith}
-use lib.ListN.{length, take, drop, getD, set, replicate, length-map, length-append, length-take, length-drop, take-append-drop}
-use lib.Seq.{sets, sets-eq, take-at, take-all, append-snoc, drop-cons, length-take-le}
-use lib.Dec.{ltb, eqb}
+use lib.ListN.{length, take, drop, getD, set, replicate, length-map, length-append, length-take, length-drop, take-append-drop, length-replicate}
+use lib.Seq.{sets, sets-eq, take-at, drop-at, take-all, append-snoc, drop-cons, length-take-le}
+use lib.Dec.{leb, ltb, eqb}
 use lib.IntN.{ℤ, pos}
-use borrow.Author.Tests.{lt-ltb, le-ltb, eq-eqb, ne-eqb, ltb-true, ltb-false, eqb-true, eqb-false}
+use borrow.Author.Tests.{le-leb, lt-ltb, le-ltb, eq-eqb, ne-eqb, ltb-true, ltb-false, eqb-true, eqb-false}
 use Rattle.text.specs.declared.Written.{Written}
 use native.Mathlib.Numerals.{add-one}
 use Rattle.text.specs.declared.card.Counts.{Counts}
@@ -21,7 +22,7 @@ use Rattle.form.specs.DecLaws.{stops}
 use Rattle.form.specs.ManyLaws.{RowsRead, many-one, many-back, ran, rows-fit, rows-front}
 use Rattle.form.specs.Words.{wordOf}
 use Rattle.text.specs.Lines.{cardForm, depthForm, soilForm}
-use Rattle.text.specs.Cards.{noCounts, rangeCounts, countsOf, countsOfOut, depthsAt, ended, cardOf, noCard, Parsed, badLine, parsedOf, parse, cardText, cardParts, allZero, given, cardWritten, cardBuffer}
+use Rattle.text.specs.Cards.{noCounts, rangeCounts, countsOf, countsOfOut, depthsAt, ended, cardOf, noCard, Parsed, badLine, parsedOf, parse, cardText, cardParts, allZero, given, cardWritten, cardBuffer, Wrote}
 use Rattle.text.specs.Written.{noText}
 use Rattle.text.specs.ReadingLaws.{write-short, write-fits}
 use Rattle.form.specs.Put.{sets-step}
@@ -279,40 +280,35 @@ parts-text c soil h =
     (ap (rowsText m depthForm) e ∙ rows-front m depthForm (map pos a) (map pos b) l)
 
 module _ (c : Card) (soil : List ℤ) (b : List ℕ) where
-  abbrev pub Wrote : Written → List ℕ → Type 0
-  Wrote r l =
-      (r ≡ cardWritten (given c) (eqb (length soil) (c .cells * 5)) (okRows (c .cells) soilForm soil) (cardText c soil) b)
-      × (l ≡ cardBuffer (given c) (eqb (length soil) (c .cells * 5)) (okRows (c .cells) soilForm soil) (cardText c soil) b)
-
-  pub wrote-none : given c ≡ false → Wrote (noText 12) b
-  wrote-none g = (rw g, rw g)
+  pub wrote-none : given c ≡ false → Wrote c soil b (noText 12) b
+  wrote-none g = record { written = rw g; buffer = rw g }
 
   module _ (g : given c ≡ true) where
-    pub wrote-long : (length soil ≡ c .cells * 5 → ⊥) → Wrote (noText 2) b
-    wrote-long h = (rw (g, ne-eqb _ _ h), rw (g, ne-eqb _ _ h))
+    pub wrote-long : (length soil ≡ c .cells * 5 → ⊥) → Wrote c soil b (noText 2) b
+    wrote-long h = record { written = rw (g, ne-eqb _ _ h); buffer = rw (g, ne-eqb _ _ h) }
 
     module _ (h : length soil ≡ c .cells * 5) where
       ok-is : okRows (c .cells) soilForm soil ≡ rowsFit (c .cells) soilForm soil
       ok-is = rows-fit (c .cells) soilForm soil h
 
-      pub wrote-odd : rowsFit (c .cells) soilForm soil ≡ false → Wrote (noText 12) b
-      wrote-odd f = (rw (g, eq-eqb _ _ h, ok-is, f), rw (g, eq-eqb _ _ h, ok-is, f))
+      pub wrote-odd : rowsFit (c .cells) soilForm soil ≡ false → Wrote c soil b (noText 12) b
+      wrote-odd f = record { written = rw (g, eq-eqb _ _ h, ok-is, f); buffer = rw (g, eq-eqb _ _ h, ok-is, f) }
 
       module _ (f : rowsFit (c .cells) soilForm soil ≡ true) (d : c .delays ≤ length (c .depths)) (n : ℕ)
           (e : n ≡ length (cardParts (pos (c .cells) ∷ pos (c .delays) ∷ []) (c .delays) (map pos (c .depths)) (c .cells) soil)) where
         e′ : n ≡ length (cardText c soil)
         e′ = e ∙ ap length (parts-text c soil d)
 
-        pub wrote-short : length b < n → Wrote (noText 12) b
+        pub wrote-short : length b < n → Wrote c soil b (noText 12) b
         wrote-short k =
             let (x, y) = write-short (cardText c soil) b n e′ k in
-            (rw (g, eq-eqb _ _ h, ok-is, f) x, rw (g, eq-eqb _ _ h, ok-is, f) y)
+            record { written = rw (g, eq-eqb _ _ h, ok-is, f) x; buffer = rw (g, eq-eqb _ _ h, ok-is, f) y }
 
         pub wrote-all : (l : List ℕ) → n ≤ length b → l ≡ sets b 0 (cardParts (pos (c .cells) ∷ pos (c .delays) ∷ []) (c .delays) (map pos (c .depths)) (c .cells) soil)
-            → Wrote (record { number = 0; len = n }) l
+            → Wrote c soil b (record { number = 0; len = n }) l
         wrote-all l k p =
             let (x, y) = write-fits (cardText c soil) b l n e′ k (p ∙ ap (sets b 0) (parts-text c soil d)) in
-            (rw (g, eq-eqb _ _ h, ok-is, f) x, rw (g, eq-eqb _ _ h, ok-is, f) y)
+            record { written = rw (g, eq-eqb _ _ h, ok-is, f) x; buffer = rw (g, eq-eqb _ _ h, ok-is, f) y }
 
 -- ---- what `write_card` accepts is read back
 zero-drop : (m : ℕ) (l : List ℕ) → allZero l ≡ true → allZero (drop m l) ≡ true
@@ -388,3 +384,61 @@ card-fits c soil g o l a =
       unused = rw (e, map-app wordOf (map pos t) r, small-back t at, k) (take-append-drop m (c .depths));
       rows = o;
     }
+
+-- ---- what a reader accepts can be written again, and gives the very bytes it took
+zeros-zero : (n : ℕ) → allZero (map wordOf (replicate n (pos 0))) ≡ true
+unfolding allZero
+zeros-zero zero = refl
+zeros-zero (suc n) = zeros-zero n
+
+later-zeros : (k n : ℕ) → drop k (replicate n (pos 0)) ≡ replicate (n - k) (pos 0)
+later-zeros zero n = ap (λ (j : ℕ). replicate j (pos 0)) (sym (sub-zero n))
+later-zeros (suc k) zero = let e : 0 - suc k ≡ 0 = omega arith in rw e
+later-zeros (suc k) (suc n) = let e : suc n - suc k ≡ n - k = omega arith in rw e (later-zeros k n)
+
+-- the places of a card that a text leaves unused hold 0
+unused-zero : (vs : List ℤ) → length vs ≤ 30 → allZero (drop (length vs) (map wordOf (sets (replicate 30 (pos 0)) 0 vs))) ≡ true
+unused-zero vs l =
+    let z : List ℤ = replicate 30 (pos 0) in
+    let e : sets z 0 vs ≡ vs ++ drop (length vs) z = sets-eq vs z 0 (omega (arith, length-replicate 30 (pos 0))) ∙ rw (zero-add (length vs)) in
+    rw (e, ← map-drop (length vs) (vs ++ drop (length vs) z), drop-at vs (drop (length vs) z) (length vs) refl, later-zeros (length vs) 30) (zeros-zero (30 - length vs))
+
+pub card-given : (s : List ℕ) → parse s .line ≡ 0
+    → (given (parse s .card) ≡ true) × (length (parse s .soil) ≡ parse s .card .cells * 5) × (okRows (parse s .card .cells) soilForm (parse s .soil) ≡ true)
+unfolding parse given
+card-given s e = go (countsOf s .ok) refl (depthsAt (countsOf s .delays) s (countsOf s .next) .ok) refl (manyAt (countsOf s .cells) soilForm s (depthsAt (countsOf s .delays) s (countsOf s .next) .next) .ok) refl
+  where
+    h : Counts
+    h = countsOf s
+
+    d : Out
+    d = depthsAt (h .delays) s (h .next)
+
+    m : Run
+    m = manyAt (h .cells) soilForm s (d .next)
+
+    go : (x : Bool) → h .ok ≡ x → (y : Bool) → d .ok ≡ y → (z : Bool) → m .ok ≡ z
+        → (given (parse s .card) ≡ true) × (length (parse s .soil) ≡ parse s .card .cells * 5) × (okRows (parse s .card .cells) soilForm (parse s .soil) ≡ true)
+    go false k y l z n = absurd (let q : 1 ≡ 0 = rw k at e in omega arith)
+    go true k false l z n = absurd (let q : 1 ≡ 0 = rw (k, l) at e in omega arith)
+    go true k true l false n = absurd (let q : m .good + 2 ≡ 0 = rw (k, l, n) at e in omega arith)
+    go true k true l true n =
+        let hr = head-one s k in
+        let dr = depths-one (h .delays) s (h .next) (hr .room) l in
+        let mr = many-one (h .cells) soilForm s (d .next) refl (dr .room) n in
+        let u : allZero (drop (h .delays) (map wordOf (sets (replicate 30 (pos 0)) 0 (d .vals)))) ≡ true = rw (dr .count) at (unused-zero (d .vals) (omega (arith, dr .count, hr .few))) in
+        rw (k, l, n) (
+          rw (le-ltb (h .cells) 1 (hr .some), le-ltb 256 (h .cells) (hr .most), le-ltb 30 (h .delays) (hr .few)) u,
+          many-length (h .cells) soilForm s (d .next) n,
+          mr .fits,
+        )
+
+-- the card and soil numbers that were read, written into a buffer with room, stand there as the very bytes that were taken
+pub card-again : (s b : List ℕ) → parse s .line ≡ 0 → length (take (parse s .next) s) ≤ length b → (w : Written) (after : List ℕ) → Wrote (parse s .card) (parse s .soil) b w after
+    → (w ≡ record { number = 0; len = length (take (parse s .next) s) }) × (after ≡ take (parse s .next) s ++ drop (length (take (parse s .next) s)) b)
+card-again s b e l w after g =
+    let p = card-given s e in
+    let t = card-one s e in
+    let k : leb (length (take (parse s .next) s)) (length b) ≡ true = le-leb _ _ l in
+    let q : eqb (length (parse s .soil)) (parse s .card .cells * 5) ≡ true = eq-eqb _ _ (p .1) in
+    (g .written ∙ rw (p .0, q, p .2, ← t, k), g .buffer ∙ rw (p .0, q, p .2, ← t, k))

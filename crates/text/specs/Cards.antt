@@ -1,4 +1,5 @@
--- Cards as text.
+-- Cards as text: what reading one finds, its one text, and what writing one gives. Definitions only.
+use mathlib.Core.Path.{_≡_}
 use Prim.Native.Nat.{ℕ, suc, _+_, _*_}
 use mathlib.Core.List.{List, [], _∷_, _++_, map}
 use mathlib.Core.Bool.{Bool, true, false, cond, _&&_}
@@ -11,7 +12,7 @@ use Rattle.text.specs.declared.card.Counts.{Counts}
 use Rattle.cell.specs.declared.Card.{Card}
 use Rattle.text.specs.declared.card.CardRead.{CardRead}
 use Rattle.form.specs.Form.{Out, formAt, formText, byteAt}
-use Rattle.form.specs.Many.{Run, manyAt, rowsText}
+use Rattle.form.specs.Many.{Run, manyAt, rowsText, okRows}
 use Rattle.form.specs.Words.{wordOf}
 use Rattle.text.specs.Lines.{cardForm, depthForm, soilForm}
 use Rattle.text.specs.Written.{noText, writtenOf, bufferOf}
@@ -105,3 +106,8 @@ cardWritten a b c t buf = cond a (cond b (cond c (writtenOf t buf) (noText 12)) 
 
 abbrev pub cardBuffer : Bool → Bool → Bool → List ℕ → List ℕ → List ℕ
 cardBuffer a b c t buf = cond a (cond b (cond c (bufferOf t buf) buf) buf) buf
+
+-- what writing a card with its soil numbers gives: 12 for a card that no text gives, 2 for a soil slice that is not 5 x cells, 12 for a soil number that doesn't fit, 12 for a short buffer
+pub record Wrote (c : Card) (soil : List ℤ) (b : List ℕ) (w : Written) (after : List ℕ) : Type 0 where
+  pub written : w ≡ cardWritten (given c) (eqb (length soil) (c .cells * 5)) (okRows (c .cells) soilForm soil) (cardText c soil) b
+  pub buffer : after ≡ cardBuffer (given c) (eqb (length soil) (c .cells * 5)) (okRows (c .cells) soilForm soil) (cardText c soil) b

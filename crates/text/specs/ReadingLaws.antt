@@ -1,10 +1,10 @@
--- Laws of readings as text: what was written is read back, and each reading has one text.
+-- Laws of readings as text: what was written is read back, and each reading has one text. Assumes nothing.
 use mathlib.Core.Path.{_≡_, refl, sym, ap, _∙_}
 use mathlib.Core.List.{List, [], _∷_, _++_, map}
 use mathlib.Core.Bool.{Bool, true, false, cond, false≢true}
 use Prim.Native.Nat.{ℕ, _+_, _≤_, _<_}
 use native.Mathlib.Omega.{arith}
-use lib.ListN.{length, take, getD}
+use lib.ListN.{length, take, drop, getD}
 use lib.Seq.{sets, sets-eq, take-all}
 use lib.Dec.{T, leb, ltb}
 use borrow.Author.Tests.{le-leb, lt-leb, lt-ltb}
@@ -128,3 +128,11 @@ one-text s e = go (formAt readingForm s 0 .ok) refl
         let l = one-line s k in
         rw (k, vals-fields (formAt readingForm s 0 .vals) (l .fits)) (l .text)
     go false k = absurd (let z : 12 ≡ 0 = rw k at e in omega arith)
+
+-- the reading that was read, written into a buffer with room, stands there as the very bytes that were taken
+pub reading-again : (s b : List ℕ) → readReading s .number ≡ 0 → length (take (readReading s .taken) s) ≤ length b
+    → (writtenOf (textOf (readReading s .reading)) b ≡ record { number = 0; len = length (take (readReading s .taken) s) })
+    × (bufferOf (textOf (readReading s .reading)) b ≡ take (readReading s .taken) s ++ drop (length (take (readReading s .taken) s)) b)
+reading-again s b e l =
+    let k : leb (length (take (readReading s .taken) s)) (length b) ≡ true = le-leb _ _ l in
+    (rw (← one-text s e, k), rw (← one-text s e, k))

@@ -1,4 +1,4 @@
--- Readings as text.
+-- Readings as text: what reading one finds, and its one text. Definitions only.
 use Prim.Native.Nat.{ℕ}
 use mathlib.Core.Path.{_≡_}
 use mathlib.Core.List.{List, [], _∷_, _++_}

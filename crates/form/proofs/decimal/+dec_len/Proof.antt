@@ -19,25 +19,21 @@ dec-len-at t = and 0 dec-len-kinds.ps (is 0 dec-len-kinds.ps μ-dec-len t) dec-l
 abbrev dec-len-below : ℕ → In 0 dec-len-kinds.ps
 dec-len-below t = and 0 dec-len-kinds.ps (falls 0 dec-len-kinds.ps _<_ μ-dec-len t) dec-len.Pre
 
--- src/lib.rt:61:9
 dec-len-returns :
     (t : ℕ) → dec-len-lts.Need-returns (dec-len-below t, dec-len.Post) (dec-len-at t) dec-len.Post
 dec-len-returns t c = omega (arith, len-small _ (c .if1 .taken))
 
--- src/lib.rt:63:5
 dec-len-dec-len-requires : (t : ℕ) → dec-len-lts.Need-dec-len-requires (
   dec-len-below t,
   dec-len.Post,
 ) (dec-len-at t) dec-len.Post
 dec-len-dec-len-requires t c κs = search needs
 
--- src/lib.rt:63:5
 dec-len-add-result :
     (t : ℕ) →
     dec-len-lts.Need-add-result (dec-len-below t, dec-len.Post) (dec-len-at t) dec-len.Post
 dec-len-add-result t c = omega (arith, len-20 (c .before .before .args .n / 10) (search needs))
 
--- src/lib.rt:57:1
 dec-len-returns-2 :
     (t : ℕ) →
     dec-len-lts.Need-returns-2 (dec-len-below t, dec-len.Post) (dec-len-at t) dec-len.Post

@@ -21,80 +21,67 @@ put-dec-at t = and 1 put-dec-kinds.ps (is 1 put-dec-kinds.ps μ-put-dec t) put-d
 abbrev put-dec-below : ℕ → In 1 put-dec-kinds.ps
 put-dec-below t = and 1 put-dec-kinds.ps (falls 1 put-dec-kinds.ps _<_ μ-put-dec t) put-dec.Pre
 
--- src/lib.rt:72:20
 put-dec-add-buf :
     (t : ℕ) → put-dec-lts.Need-add-buf (put-dec-below t, put-dec.Post) (put-dec-at t) put-dec.Post
 put-dec-add-buf t c = omega arith
 
--- src/lib.rt:72:19
 put-dec-cast-buf :
     (t : ℕ) →
     put-dec-lts.Need-cast-buf (put-dec-below t, put-dec.Post) (put-dec-at t) put-dec.Post
 put-dec-cast-buf t c = omega arith
 
--- src/lib.rt:72:9
 put-dec-slice-write-buf : (t : ℕ) → put-dec-lts.Need-slice-write-buf (
   put-dec-below t,
   put-dec.Post,
 ) (put-dec-at t) put-dec.Post
 put-dec-slice-write-buf t c = omega (arith, len-small _ (c .if1 .taken))
 
--- src/lib.rt:73:16
 put-dec-add-result :
     (t : ℕ) →
     put-dec-lts.Need-add-result (put-dec-below t, put-dec.Post) (put-dec-at t) put-dec.Post
 put-dec-add-result t c = omega (arith, len-small _ (c .if1 .taken))
 
--- src/lib.rt:73:9
 put-dec-same-length :
     (t : ℕ) →
     put-dec-lts.Need-same-length (put-dec-below t, put-dec.Post) (put-dec-at t) put-dec.Post
 put-dec-same-length t c = simp length-set
 
--- src/lib.rt:73:9
 put-dec-returns :
     (t : ℕ) → put-dec-lts.Need-returns (put-dec-below t, put-dec.Post) (put-dec-at t) put-dec.Post
 put-dec-returns t c = (omega (arith, len-small _ (c .if1 .taken)), put-small _ _ _ (c .if1 .taken))
 
--- src/lib.rt:75:9
 put-dec-put-dec-requires : (t : ℕ) → put-dec-lts.Need-put-dec-requires (
   put-dec-below t,
   put-dec.Post,
 ) (put-dec-at t) put-dec.Post
 put-dec-put-dec-requires t c κs = omega (arith, len-more _ (c .before .if1 .left))
 
--- src/lib.rt:76:15
 put-dec-add-buf-2 :
     (t : ℕ) →
     put-dec-lts.Need-add-buf-2 (put-dec-below t, put-dec.Post) (put-dec-at t) put-dec.Post
 put-dec-add-buf-2 t c = omega arith
 
--- src/lib.rt:76:14
 put-dec-cast-buf-2 :
     (t : ℕ) →
     put-dec-lts.Need-cast-buf-2 (put-dec-below t, put-dec.Post) (put-dec-at t) put-dec.Post
 put-dec-cast-buf-2 t c = omega arith
 
--- src/lib.rt:76:5
 put-dec-slice-write-buf-2 : (t : ℕ) → put-dec-lts.Need-slice-write-buf-2 (
   put-dec-below t,
   put-dec.Post,
 ) (put-dec-at t) put-dec.Post
 put-dec-slice-write-buf-2 t c = omega (arith, len-more _ (c .before .before .before .before .if1 .left))
 
--- src/lib.rt:77:5
 put-dec-add-result-2 :
     (t : ℕ) →
     put-dec-lts.Need-add-result-2 (put-dec-below t, put-dec.Post) (put-dec-at t) put-dec.Post
 put-dec-add-result-2 t c = omega (arith, len-more _ (c .before .before .before .before .if1 .left))
 
--- src/lib.rt:67:1
 put-dec-same-length-2 :
     (t : ℕ) →
     put-dec-lts.Need-same-length-2 (put-dec-below t, put-dec.Post) (put-dec-at t) put-dec.Post
 put-dec-same-length-2 t c = simp length-set (c .before .before .put-dec .kept .1 .0)
 
--- src/lib.rt:67:1
 put-dec-returns-2 :
     (t : ℕ) →
     put-dec-lts.Need-returns-2 (put-dec-below t, put-dec.Post) (put-dec-at t) put-dec.Post

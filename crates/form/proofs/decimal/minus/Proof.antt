@@ -1,3 +1,4 @@
+-- `form::decimal::minus` meets its contract. Assumes nothing.
 use Rattle.form.specs.Signed.{sub-neg}
 use native.Mathlib.Omega.{arith}
 use mir.Facts.{toZ-pos, toZ-ofZ}
@@ -7,22 +8,16 @@ use lib.IntN.{negsuc}
 use borrow.Author.Needs.{needs}
 use Rattle.form.proofs.decimal.minus.Statement.{statement}
 use Rattle.form.proofs.decimal.minus.Tie as tie
-use Rattle.form.proofs.decimal.minus.Reads as reads
-use Rattle.form.proofs.decimal.minus.Lts as lts
 
--- src/lib.rt:94:12
 sub-result : tie.Need-sub-result
 sub-result c = search needs
 
--- src/lib.rt:94:11
 cast-result : tie.Need-cast-result
 cast-result c = search needs
 
--- src/lib.rt:94:5
 sub-result-2 : tie.Need-sub-result-2
 sub-result-2 c = rw (toZ-pos w64 {n = c .args .m - 1} (omega arith), sub-neg (c .args .m - 1)) (record { sfits = omega arith })
 
--- src/lib.rt:90:1
 returns : tie.Need-returns
 returns c = rw (toZ-pos w64 {n = c .args .m - 1} (omega arith), sub-neg (c .args .m - 1), toZ-ofZ {w = w64} {z = negsuc (c .args .m - 1)} (record { sfits = omega arith }))
 

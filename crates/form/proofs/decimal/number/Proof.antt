@@ -10,8 +10,6 @@ use Rattle.form.specs.Dec.{numAt, numGo}
 use Rattle.form.proofs.Digits.{start-end, start-stop, start-more, go-end, go-stop, go-zero, go-over, go-more}
 use Rattle.form.proofs.decimal.number.Statement.{statement}
 use Rattle.form.proofs.decimal.number.Tie as tie
-use Rattle.form.proofs.decimal.number.Reads as reads
-use Rattle.form.proofs.decimal.number.Lts as lts
 
 abbrev Inv-loop : tie.InvT-loop
 Inv-loop s at max v₀ i₀ v i = (numAt max s at ≡ numGo max v i (drop i s)) × (v ≤ max) × (i ≤ length s)

@@ -1,16 +1,13 @@
+-- `form::decimal::plus` meets its contract. Assumes nothing.
 use mir.Facts.{toZ-pos}
 use mir.Syntax.{w64}
 use borrow.Author.Needs.{needs}
 use Rattle.form.proofs.decimal.plus.Statement.{statement}
 use Rattle.form.proofs.decimal.plus.Tie as tie
-use Rattle.form.proofs.decimal.plus.Reads as reads
-use Rattle.form.proofs.decimal.plus.Lts as lts
 
--- src/lib.rt:87:5
 cast-result : tie.Need-cast-result
 cast-result c = search needs
 
--- src/lib.rt:83:1
 returns : tie.Need-returns
 returns c = toZ-pos w64 (c .pre)
 

@@ -23,7 +23,6 @@ put-hex-at t = and 1 put-hex-kinds.ps (is 1 put-hex-kinds.ps μ-put-hex t) put-h
 abbrev put-hex-below : ℕ → In 1 put-hex-kinds.ps
 put-hex-below t = and 1 put-hex-kinds.ps (falls 1 put-hex-kinds.ps _<_ μ-put-hex t) put-hex.Pre
 
--- src/lib.rt:165:9
 put-hex-returns : (t : ℕ) → put-hex-lts.Need-returns (
   put-hex-below t,
   put-hex.Post,
@@ -32,7 +31,6 @@ put-hex-returns : (t : ℕ) → put-hex-lts.Need-returns (
 ) (put-hex-at t) put-hex.Post
 put-hex-returns t c = (omega arith, hex-none _ _ _ _ (c .if1 .taken))
 
--- src/lib.rt:167:21
 put-hex-sub-put-hex : (t : ℕ) → put-hex-lts.Need-sub-put-hex (
   put-hex-below t,
   put-hex.Post,
@@ -41,7 +39,6 @@ put-hex-sub-put-hex : (t : ℕ) → put-hex-lts.Need-sub-put-hex (
 ) (put-hex-at t) put-hex.Post
 put-hex-sub-put-hex t c = omega arith
 
--- src/lib.rt:167:9
 put-hex-put-hex-requires : (t : ℕ) → put-hex-lts.Need-put-hex-requires (
   put-hex-below t,
   put-hex.Post,
@@ -50,7 +47,6 @@ put-hex-put-hex-requires : (t : ℕ) → put-hex-lts.Need-put-hex-requires (
 ) (put-hex-at t) put-hex.Post
 put-hex-put-hex-requires t c κs = omega arith
 
--- src/lib.rt:168:14
 put-hex-hex-byte-requires : (t : ℕ) → put-hex-lts.Need-hex-byte-requires (
   put-hex-below t,
   put-hex.Post,
@@ -59,7 +55,6 @@ put-hex-hex-byte-requires : (t : ℕ) → put-hex-lts.Need-hex-byte-requires (
 ) (put-hex-at t) put-hex.Post
 put-hex-hex-byte-requires t c κs = omega arith
 
--- src/lib.rt:168:5
 put-hex-slice-write-buf : (t : ℕ) → put-hex-lts.Need-slice-write-buf (
   put-hex-below t,
   put-hex.Post,
@@ -68,7 +63,6 @@ put-hex-slice-write-buf : (t : ℕ) → put-hex-lts.Need-slice-write-buf (
 ) (put-hex-at t) put-hex.Post
 put-hex-slice-write-buf t c = omega arith
 
--- src/lib.rt:169:5
 put-hex-add-result : (t : ℕ) → put-hex-lts.Need-add-result (
   put-hex-below t,
   put-hex.Post,
@@ -77,7 +71,6 @@ put-hex-add-result : (t : ℕ) → put-hex-lts.Need-add-result (
 ) (put-hex-at t) put-hex.Post
 put-hex-add-result t c = omega arith
 
--- src/lib.rt:160:1
 put-hex-same-length : (t : ℕ) → put-hex-lts.Need-same-length (
   put-hex-below t,
   put-hex.Post,
@@ -86,7 +79,6 @@ put-hex-same-length : (t : ℕ) → put-hex-lts.Need-same-length (
 ) (put-hex-at t) put-hex.Post
 put-hex-same-length t c = simp length-set (c .before .before .before .put-hex .kept .1 .1 .0)
 
--- src/lib.rt:160:1
 put-hex-returns-2 : (t : ℕ) → put-hex-lts.Need-returns-2 (
   put-hex-below t,
   put-hex.Post,

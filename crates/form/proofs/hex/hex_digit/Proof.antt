@@ -1,39 +1,30 @@
+-- `form::hex::hex_digit` meets its contract. Assumes nothing.
 use borrow.Author.Tests.{le-ltb, lt-ltb}
 use borrow.Author.Needs.{needs}
 use Rattle.form.proofs.hex.hex_digit.Statement.{statement}
 use Rattle.form.proofs.hex.hex_digit.Tie as tie
-use Rattle.form.proofs.hex.hex_digit.Reads as reads
-use Rattle.form.proofs.hex.hex_digit.Lts as lts
 
--- src/lib.rt:112:9
 returns : tie.Need-returns
 returns c = simp (lt-ltb _ _ (c .if1 .taken))
 
--- src/lib.rt:115:16
 cast-result : tie.Need-cast-result
 cast-result c = search needs
 
--- src/lib.rt:115:9
 returns-2 : tie.Need-returns-2
 returns-2 c = simp (le-ltb _ _ (c .before .if1 .left), lt-ltb _ _ (c .if2 .taken))
 
--- src/lib.rt:118:9
 returns-3 : tie.Need-returns-3
 returns-3 c = simp (le-ltb _ _ (c .before .before .if1 .left), le-ltb _ _ (c .before .if2 .left), lt-ltb _ _ (c .if3 .taken))
 
--- src/lib.rt:121:17
 sub-result : tie.Need-sub-result
 sub-result c = search needs
 
--- src/lib.rt:121:16
 cast-result-2 : tie.Need-cast-result-2
 cast-result-2 c = search needs
 
--- src/lib.rt:121:9
 returns-4 : tie.Need-returns-4
 returns-4 c = simp (le-ltb _ _ (c .before .before .before .if1 .left), le-ltb _ _ (c .before .before .if2 .left), le-ltb _ _ (c .before .if3 .left), lt-ltb _ _ (c .if4 .taken))
 
--- src/lib.rt:108:1
 returns-5 : tie.Need-returns-5
 returns-5 c = simp (le-ltb _ _ (c .before .before .before .if1 .left), le-ltb _ _ (c .before .before .if2 .left), le-ltb _ _ (c .before .if3 .left), le-ltb _ _ (c .if4 .left))
 

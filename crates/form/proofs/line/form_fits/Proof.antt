@@ -1,3 +1,4 @@
+-- `form::line::form_fits` meets its contract. Assumes nothing.
 use native.Mathlib.Omega.{arith}
 use borrow.Author.Needs.{needs}
 use mathlib.Core.Path.{_≡_, refl, sym, ap, _∙_}
@@ -13,10 +14,6 @@ use Rattle.form.specs.Form.{marks, isMark, fits}
 use Rattle.form.proofs.Digits.{marks-mark, marks-lit, fits-end, fits-yes, fits-no, fits-lit}
 use Rattle.form.proofs.line.form_fits.Statement.{statement}
 use Rattle.form.proofs.line.form_fits.Tie as tie
-use Rattle.form.proofs.line.form_fits.Reads as reads
-use Rattle.form.proofs.line.form_fits.Lts as lts
-use Rattle.form.proofs.value.is_mark.Reads as is-mark-reads
-use Rattle.form.proofs.value.value_fits.Reads as value-fits-reads
 
 abbrev Inv-loop : tie.InvT-loop
 Inv-loop f vals first j₀ k₀ j k = (fits f (drop first vals) ≡ fits (drop k f) (drop j vals)) × (j + marks (drop k f) ≤ length vals) × (k ≤ length f)
@@ -36,63 +33,48 @@ no-m c = sym (c .before .is-mark .ensures) ∙ c .if1 .left
 marks-l : (c : tie.Else1 Inv-loop μ-loop) → marks (drop (c .before .before .before .before .loop .k) (now (c .before .before .before .before .before .before .args .f))) ≡ marks (drop (c .before .before .before .before .loop .k + 1) (now (c .before .before .before .before .before .before .args .f)))
 marks-l c = marks-lit (now (c .before .before .before .before .before .before .args .f)) (c .before .before .before .before .loop .k) _ (c .before .before .before .loop-test .taken) refl (no-m c)
 
--- src/lib.rt:783:5
 loop-holds : tie.Need-loop-holds Inv-loop μ-loop
 loop-holds c = search needs
 
--- src/lib.rt:784:17
 shared-slice-read-c : tie.Need-shared-slice-read-c Inv-loop μ-loop
 shared-slice-read-c c = search needs
 
--- src/lib.rt:785:12
 is-mark-requires : tie.Need-is-mark-requires Inv-loop μ-loop
 is-mark-requires c κs = search needs
 
--- src/lib.rt:786:30
 mul-value-fits : tie.Need-mul-value-fits Inv-loop μ-loop
 mul-value-fits c = omega (arith, marks-m c)
 
--- src/lib.rt:786:30
 shared-slice-copy-out-value-fits : tie.Need-shared-slice-copy-out-value-fits Inv-loop μ-loop
 shared-slice-copy-out-value-fits c = omega (arith, marks-m c)
 
--- src/lib.rt:786:16
 value-fits-requires : tie.Need-value-fits-requires Inv-loop μ-loop
 value-fits-requires c κs = search needs
 
--- src/lib.rt:787:17
 add-j : tie.Need-add-j Inv-loop μ-loop
 add-j c = omega (arith, marks-m (c .before .before .before))
 
--- src/lib.rt:788:17
 add-k : tie.Need-add-k Inv-loop μ-loop
 add-k c = search needs
 
--- src/lib.rt:783:5
 loop-less : tie.Need-loop-less Inv-loop μ-loop
 loop-less c = search needs
 
--- src/lib.rt:783:5
 loop-again : tie.Need-loop-again Inv-loop μ-loop
 loop-again c = let e : toZ w64 (ofZ w64 (getD (now (c .before .before .before .before .before .before .before .before .before .args .vals)) (c .before .before .before .before .before .before .before .loop .j) (pos 0))) ≡ getD (now (c .before .before .before .before .before .before .before .before .before .args .vals)) (c .before .before .before .before .before .before .before .loop .j) (pos 0) = search needs in (c .before .before .before .before .before .before .before .loop .inv .0 ∙ fits-yes (now (c .before .before .before .before .before .before .before .before .before .args .f)) (c .before .before .before .before .before .before .before .loop .k) _ (c .before .before .before .before .before .before .loop-test .taken) refl (now (c .before .before .before .before .before .before .before .before .before .args .vals)) (c .before .before .before .before .before .before .before .loop .j) (is-m (c .before .before .before)) (sym (rw e at (c .before .value-fits .ensures)) ∙ c .if2 .taken), omega (arith, marks-m (c .before .before .before)), omega arith)
 
--- src/lib.rt:790:17
 returns : tie.Need-returns Inv-loop μ-loop
 returns c = let e : toZ w64 (ofZ w64 (getD (now (c .before .before .before .before .before .before .before .before .before .args .vals)) (c .before .before .before .before .before .before .before .loop .j) (pos 0))) ≡ getD (now (c .before .before .before .before .before .before .before .before .before .args .vals)) (c .before .before .before .before .before .before .before .loop .j) (pos 0) = search needs in sym (c .before .before .before .before .before .before .before .loop .inv .0 ∙ fits-no (now (c .before .before .before .before .before .before .before .before .before .args .f)) (c .before .before .before .before .before .before .before .loop .k) _ (c .before .before .before .before .before .before .loop-test .taken) refl (now (c .before .before .before .before .before .before .before .before .before .args .vals)) (c .before .before .before .before .before .before .before .loop .j) (is-m (c .before .before .before)) (sym (rw e at (c .before .value-fits .ensures)) ∙ c .if2 .left))
 
--- src/lib.rt:793:13
 add-k-2 : tie.Need-add-k-2 Inv-loop μ-loop
 add-k-2 c = search needs
 
--- src/lib.rt:783:5
 loop-less-2 : tie.Need-loop-less-2 Inv-loop μ-loop
 loop-less-2 c = search needs
 
--- src/lib.rt:783:5
 loop-again-2 : tie.Need-loop-again-2 Inv-loop μ-loop
 loop-again-2 c = (c .before .before .before .before .loop .inv .0 ∙ fits-lit (now (c .before .before .before .before .before .before .args .f)) (c .before .before .before .before .loop .k) _ (c .before .before .before .loop-test .taken) refl (drop (c .before .before .before .before .loop .j) (now (c .before .before .before .before .before .before .args .vals))) (no-m c), omega (arith, marks-l c), omega arith)
 
--- src/lib.rt:777:1
 returns-2 : tie.Need-returns-2 Inv-loop μ-loop
 returns-2 c = sym (c .before .loop .inv .0 ∙ fits-end (now (c .before .before .before .args .f)) (drop (c .before .loop .j) (now (c .before .before .before .args .vals))) (c .before .loop .k) (c .loop-test .left))
 

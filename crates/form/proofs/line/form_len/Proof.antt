@@ -1,3 +1,4 @@
+-- `form::line::form_len` meets its contract. Assumes nothing.
 use mir.Val.{toZ, ofZ}
 use mir.Syntax.{w64}
 use native.Mathlib.Omega.{arith}
@@ -14,10 +15,6 @@ use Rattle.form.specs.Form.{marks, formText, valText, isMark}
 use Rattle.form.proofs.Digits.{marks-mark, marks-lit, text-mark, text-lit, text-end}
 use Rattle.form.proofs.line.form_len.Statement.{statement}
 use Rattle.form.proofs.line.form_len.Tie as tie
-use Rattle.form.proofs.line.form_len.Reads as reads
-use Rattle.form.proofs.line.form_len.Lts as lts
-use Rattle.form.proofs.value.is_mark.Reads as is-mark-reads
-use Rattle.form.proofs.value.value_len.Reads as value-len-reads
 
 abbrev Inv-loop : tie.InvT-loop
 Inv-loop f vals first n₀ j₀ k₀ n j k = (n + length (formText (drop k f) (drop j vals)) ≡ length (formText f (drop first vals))) × (n ≤ 21 * k) × (j + marks (drop k f) ≤ length vals) × (k ≤ length f)
@@ -43,67 +40,51 @@ marks-l c = marks-lit (now (c .before .before .before .before .before .before .a
 text-l : (c : tie.Else1 Inv-loop μ-loop) → formText (drop (c .before .before .before .before .loop .k) (now (c .before .before .before .before .before .before .args .f))) (drop (c .before .before .before .before .loop .j) (now (c .before .before .before .before .before .before .args .vals))) ≡ getD (now (c .before .before .before .before .before .before .args .f)) (c .before .before .before .before .loop .k) 0 ∷ formText (drop (c .before .before .before .before .loop .k + 1) (now (c .before .before .before .before .before .before .args .f))) (drop (c .before .before .before .before .loop .j) (now (c .before .before .before .before .before .before .args .vals)))
 text-l c = text-lit (now (c .before .before .before .before .before .before .args .f)) (c .before .before .before .before .loop .k) _ (c .before .before .before .loop-test .taken) refl (drop (c .before .before .before .before .loop .j) (now (c .before .before .before .before .before .before .args .vals))) (no-m c)
 
--- src/lib.rt:328:5
 loop-holds : tie.Need-loop-holds Inv-loop μ-loop
 loop-holds c = search needs
 
--- src/lib.rt:329:17
 shared-slice-read-c : tie.Need-shared-slice-read-c Inv-loop μ-loop
 shared-slice-read-c c = search needs
 
--- src/lib.rt:330:12
 is-mark-requires : tie.Need-is-mark-requires Inv-loop μ-loop
 is-mark-requires c κs = search needs
 
--- src/lib.rt:331:31
 mul-value-len : tie.Need-mul-value-len Inv-loop μ-loop
 mul-value-len c = omega (arith, marks-m c)
 
--- src/lib.rt:331:31
 shared-slice-copy-out-value-len : tie.Need-shared-slice-copy-out-value-len Inv-loop μ-loop
 shared-slice-copy-out-value-len c = omega (arith, marks-m c)
 
--- src/lib.rt:331:18
 value-len-requires : tie.Need-value-len-requires Inv-loop μ-loop
 value-len-requires c κs = search needs
 
--- src/lib.rt:331:13
 add-n : tie.Need-add-n Inv-loop μ-loop
 add-n c = search needs
 
--- src/lib.rt:332:13
 add-j : tie.Need-add-j Inv-loop μ-loop
 add-j c = omega (arith, marks-m (c .before .before))
 
--- src/lib.rt:333:13
 add-k : tie.Need-add-k Inv-loop μ-loop
 add-k c = search needs
 
--- src/lib.rt:328:5
 loop-less : tie.Need-loop-less Inv-loop μ-loop
 loop-less c = search needs
 
--- src/lib.rt:328:5
 loop-again : tie.Need-loop-again Inv-loop μ-loop
 loop-again c = let e : toZ w64 (ofZ w64 (getD (now (c .before .before .before .before .before .before .before .before .args .vals)) (c .before .before .before .before .before .before .loop .j) (pos 0))) ≡ getD (now (c .before .before .before .before .before .before .before .before .args .vals)) (c .before .before .before .before .before .before .loop .j) (pos 0) = search needs in let v = rw e at (c .value-len .ensures) in let l : length (formText (drop (c .before .before .before .before .before .before .loop .k) (now (c .before .before .before .before .before .before .before .before .args .f))) (drop (c .before .before .before .before .before .before .loop .j) (now (c .before .before .before .before .before .before .before .before .args .vals)))) ≡ length (valText (getD (now (c .before .before .before .before .before .before .before .before .args .f)) (c .before .before .before .before .before .before .loop .k) 0) (getD (now (c .before .before .before .before .before .before .before .before .args .vals)) (c .before .before .before .before .before .before .loop .j) (pos 0))) + length (formText (drop (c .before .before .before .before .before .before .loop .k + 1) (now (c .before .before .before .before .before .before .before .before .args .f))) (drop (c .before .before .before .before .before .before .loop .j + 1) (now (c .before .before .before .before .before .before .before .before .args .vals)))) = ap length (text-m (c .before .before)) ∙ simp length-append in omega (arith, marks-m (c .before .before))
 
--- src/lib.rt:335:13
 add-n-2 : tie.Need-add-n-2 Inv-loop μ-loop
 add-n-2 c = search needs
 
--- src/lib.rt:336:13
 add-k-2 : tie.Need-add-k-2 Inv-loop μ-loop
 add-k-2 c = search needs
 
--- src/lib.rt:328:5
 loop-less-2 : tie.Need-loop-less-2 Inv-loop μ-loop
 loop-less-2 c = search needs
 
--- src/lib.rt:328:5
 loop-again-2 : tie.Need-loop-again-2 Inv-loop μ-loop
 loop-again-2 c = let l = ap length (text-l c) in omega (arith, marks-l c)
 
--- src/lib.rt:321:1
 returns : tie.Need-returns Inv-loop μ-loop
 returns c = let l = ap length (text-end (now (c .before .before .before .args .f)) (drop (c .before .loop .j) (now (c .before .before .before .args .vals))) (c .before .loop .k) (c .loop-test .left)) in omega arith
 

@@ -1,3 +1,4 @@
+-- `form::line::put_form` meets its contract. Assumes nothing.
 use mir.Val.{toZ, ofZ}
 use mir.Syntax.{w64}
 use native.Mathlib.Omega.{arith}
@@ -16,10 +17,6 @@ use lib.Seq.{sets}
 use Rattle.form.specs.Put.{sets-append, sets-step}
 use Rattle.form.proofs.line.put_form.Statement.{statement}
 use Rattle.form.proofs.line.put_form.Tie as tie
-use Rattle.form.proofs.line.put_form.Reads as reads
-use Rattle.form.proofs.line.put_form.Lts as lts
-use Rattle.form.proofs.value.is_mark.Reads as is-mark-reads
-use Rattle.form.proofs.value.put_value.Reads as put-value-reads
 
 abbrev Inv-loop : tie.InvT-loop
 Inv-loop f vals first buf₀ from at₀ j₀ k₀ buf at j k = (sets buf at (formText (drop k f) (drop j vals)) ≡ sets buf₀ from (formText f (drop first vals))) × (at + length (formText (drop k f) (drop j vals)) ≡ from + length (formText f (drop first vals))) × (length buf ≡ length buf₀) × (j + marks (drop k f) ≤ length vals) × (k ≤ length f)
@@ -45,71 +42,54 @@ marks-l c = marks-lit (now (c .before .before .before .before .before .before .b
 text-l : (c : tie.Else1 Inv-loop μ-loop) → formText (drop (c .before .before .before .before .loop .k) (now (c .before .before .before .before .before .before .before .args .f))) (drop (c .before .before .before .before .loop .j) (now (c .before .before .before .before .before .before .before .args .vals))) ≡ getD (now (c .before .before .before .before .before .before .before .args .f)) (c .before .before .before .before .loop .k) 0 ∷ formText (drop (c .before .before .before .before .loop .k + 1) (now (c .before .before .before .before .before .before .before .args .f))) (drop (c .before .before .before .before .loop .j) (now (c .before .before .before .before .before .before .before .args .vals)))
 text-l c = text-lit (now (c .before .before .before .before .before .before .before .args .f)) (c .before .before .before .before .loop .k) _ (c .before .before .before .loop-test .taken) refl (drop (c .before .before .before .before .loop .j) (now (c .before .before .before .before .before .before .before .args .vals))) (no-m c)
 
--- src/lib.rt:351:5
 loop-holds : tie.Need-loop-holds Inv-loop μ-loop
 loop-holds c = (refl, refl, refl, c .before .before .pre .0, search needs)
 
--- src/lib.rt:352:17
 shared-slice-read-c : tie.Need-shared-slice-read-c Inv-loop μ-loop
 shared-slice-read-c c = search needs
 
--- src/lib.rt:353:12
 is-mark-requires : tie.Need-is-mark-requires Inv-loop μ-loop
 is-mark-requires c κs = search needs
 
--- src/lib.rt:354:31
 mul-put-value : tie.Need-mul-put-value Inv-loop μ-loop
 mul-put-value c = omega (arith, marks-m c)
 
--- src/lib.rt:354:31
 shared-slice-copy-out-put-value : tie.Need-shared-slice-copy-out-put-value Inv-loop μ-loop
 shared-slice-copy-out-put-value c = omega (arith, marks-m c)
 
--- src/lib.rt:354:13
 put-value-requires : tie.Need-put-value-requires Inv-loop μ-loop
 put-value-requires c κs = let e : toZ w64 (ofZ w64 (getD (now (c .before .before .before .before .before .before .before .before .before .args .vals)) (c .before .before .before .before .before .before .loop .j) (pos 0))) ≡ getD (now (c .before .before .before .before .before .before .before .before .before .args .vals)) (c .before .before .before .before .before .before .loop .j) (pos 0) = search needs in let l = simp length-append at (ap length (text-m (c .before .before))) in rw e (omega arith)
 
--- src/lib.rt:355:13
 add-j : tie.Need-add-j Inv-loop μ-loop
 add-j c = omega (arith, marks-m (c .before .before .before .before .before))
 
--- src/lib.rt:356:13
 add-k : tie.Need-add-k Inv-loop μ-loop
 add-k c = search needs
 
--- src/lib.rt:351:5
 loop-less : tie.Need-loop-less Inv-loop μ-loop
 loop-less c = search needs
 
--- src/lib.rt:351:5
 loop-again : tie.Need-loop-again Inv-loop μ-loop
 loop-again c = let e : toZ w64 (ofZ w64 (getD (now (c .before .before .before .before .before .before .before .before .before .before .before .before .args .vals)) (c .before .before .before .before .before .before .before .before .before .loop .j) (pos 0))) ≡ getD (now (c .before .before .before .before .before .before .before .before .before .before .before .before .args .vals)) (c .before .before .before .before .before .before .before .before .before .loop .j) (pos 0) = search needs in let l = simp length-append at (ap length (text-m (c .before .before .before .before .before))) in let v = rw e at (c .before .before .put-value .ensures) in (sets-step (c .before .before .before .before .before .before .before .before .before .loop .buf) (c .before .before .before .before .before .before .before .before .before .loop .at) (valText (getD (now (c .before .before .before .before .before .before .before .before .before .before .before .before .args .f)) (c .before .before .before .before .before .before .before .before .before .loop .k) 0) (getD (now (c .before .before .before .before .before .before .before .before .before .before .before .before .args .vals)) (c .before .before .before .before .before .before .before .before .before .loop .j) (pos 0))) (formText (drop (c .before .before .before .before .before .before .before .before .before .loop .k + 1) (now (c .before .before .before .before .before .before .before .before .before .before .before .before .args .f))) (drop (c .before .before .before .before .before .before .before .before .before .loop .j + 1) (now (c .before .before .before .before .before .before .before .before .before .before .before .before .args .vals)))) (v .1) (v .0) (text-m (c .before .before .before .before .before)) ∙ c .before .before .before .before .before .before .before .before .before .loop .inv .0, omega arith, c .before .before .put-value .kept .1 .1 .0 ∙ c .before .before .before .before .before .before .before .before .before .loop .inv .2, omega (arith, marks-m (c .before .before .before .before .before)), omega arith)
 
--- src/lib.rt:358:13
 slice-write-buf : tie.Need-slice-write-buf Inv-loop μ-loop
 slice-write-buf c = let l = ap length (text-l c) in omega arith
 
--- src/lib.rt:359:13
 add-at : tie.Need-add-at Inv-loop μ-loop
 add-at c = let l = ap length (text-l c) in omega arith
 
--- src/lib.rt:360:13
 add-k-2 : tie.Need-add-k-2 Inv-loop μ-loop
 add-k-2 c = search needs
 
--- src/lib.rt:351:5
 loop-less-2 : tie.Need-loop-less-2 Inv-loop μ-loop
 loop-less-2 c = search needs
 
--- src/lib.rt:351:5
 loop-again-2 : tie.Need-loop-again-2 Inv-loop μ-loop
 loop-again-2 c = let l = ap length (text-l c) in (rw (add-one (c .before .before .before .before .loop .at)) (ap (sets (c .before .before .before .before .loop .buf) (c .before .before .before .before .loop .at)) (sym (text-l c)) ∙ c .before .before .before .before .loop .inv .0), omega arith, simp length-set (c .before .before .before .before .loop .inv .2), omega (arith, marks-l c), omega arith)
 
--- src/lib.rt:343:1
 same-length : tie.Need-same-length Inv-loop μ-loop
 same-length c = c .before .loop .inv .2
 
--- src/lib.rt:343:1
 returns : tie.Need-returns Inv-loop μ-loop
 returns c = let e = text-end (now (c .before .before .before .before .args .f)) (drop (c .before .loop .j) (now (c .before .before .before .before .args .vals))) (c .before .loop .k) (c .loop-test .left) in let l = ap length e in (omega arith, ap (sets (c .before .loop .buf) (c .before .loop .at)) (sym e) ∙ c .before .loop .inv .0)
 

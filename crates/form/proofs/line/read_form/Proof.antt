@@ -1,3 +1,4 @@
+-- `form::line::read_form` meets its contract. Assumes nothing.
 use mathlib.Core.Bool.{true, false}
 use lib.ListN.{getD}
 use denote.Ref.{now}
@@ -16,12 +17,6 @@ use Rattle.form.specs.Form.{Out, formAt, takenOf, marks}
 use Rattle.form.proofs.Digits.{form-end, form-val, form-not, form-lit, form-other, marks-mark, marks-lit, byte-below}
 use Rattle.form.proofs.line.read_form.Statement.{statement}
 use Rattle.form.proofs.line.read_form.Tie as tie
-use Rattle.form.proofs.line.read_form.Reads as reads
-use Rattle.form.proofs.line.read_form.Lts as lts
-use Rattle.form.proofs.value.byte_at.Reads as byte-at-reads
-use Rattle.form.proofs.value.is_mark.Reads as is-mark-reads
-use Rattle.form.proofs.value.value.Reads as value-reads
-use Rattle.form.proofs.value.wide.Reads as wide-reads
 
 abbrev Inv-loop : tie.InvT-loop
 Inv-loop s from f vals₀ first at₀ j₀ k₀ vals at j k = (takenOf (formAt f s from) ≡ takenOf (formAt (drop k f) s at)) × (sets vals₀ first (formAt f s from .vals) ≡ sets vals j (formAt (drop k f) s at .vals)) × (j + marks (drop k f) ≤ length vals) × (length vals ≡ length vals₀) × (k ≤ length f)
@@ -29,27 +24,21 @@ Inv-loop s from f vals₀ first at₀ j₀ k₀ vals at j k = (takenOf (formAt f
 abbrev μ-loop : tie.MeasureT-loop
 μ-loop s from f vals₀ first at₀ j₀ k₀ vals at j k = length f - k
 
--- src/lib.rt:246:5
 loop-holds : tie.Need-loop-holds Inv-loop μ-loop
 loop-holds c = search needs
 
--- src/lib.rt:247:17
 shared-slice-read-c : tie.Need-shared-slice-read-c Inv-loop μ-loop
 shared-slice-read-c c = search needs
 
--- src/lib.rt:248:12
 is-mark-requires : tie.Need-is-mark-requires Inv-loop μ-loop
 is-mark-requires c κs = search needs
 
--- src/lib.rt:249:19
 value-requires : tie.Need-value-requires Inv-loop μ-loop
 value-requires c κs = search needs
 
--- src/lib.rt:250:26
 enum-known-z : tie.Need-enum-known-z Inv-loop μ-loop
 enum-known-z c = search needs
 
--- src/lib.rt:251:21
 mul-z : tie.Need-mul-z Inv-loop μ-loop
 mul-z c = search needs
 
@@ -75,23 +64,18 @@ other c = omega arith
 marked : (c : tie.After-known-told Inv-loop μ-loop) → formAt (drop (c .before .before .before .before .before .before .before .before .loop .k) (now (c .before .before .before .before .before .before .before .before .before .before .before .args .f))) (now (c .before .before .before .before .before .before .before .before .before .before .before .args .s)) (c .before .before .before .before .before .before .before .before .loop .at) ≡ push (c .before .z .given .0 .0) (formAt (drop (c .before .before .before .before .before .before .before .before .loop .k + 1) (now (c .before .before .before .before .before .before .before .before .before .before .before .args .f))) (now (c .before .before .before .before .before .before .before .before .before .before .before .args .s)) (c .before .z .given .0 .1 .0))
 marked c = form-val _ _ _ _ _ (c .before .before .before .before .before .before .before .loop-test .taken) refl _ _ (is-m (c .before .before .before .before)) (sym (c .before .before .before .value .ensures) ∙ c .before .z .given .1)
 
--- src/lib.rt:251:21
 slice-set-from-z : tie.Need-slice-set-from-z Inv-loop μ-loop
 slice-set-from-z c = omega (arith, marks-m (c .before .before .before .before))
 
--- src/lib.rt:252:21
 add-j : tie.Need-add-j Inv-loop μ-loop
 add-j c = search needs
 
--- src/lib.rt:254:21
 add-k : tie.Need-add-k Inv-loop μ-loop
 add-k c = search needs
 
--- src/lib.rt:246:5
 loop-less : tie.Need-loop-less Inv-loop μ-loop
 loop-less c = search needs
 
--- src/lib.rt:246:5
 loop-again : tie.Need-loop-again Inv-loop μ-loop
 loop-again c =
     let e : toZ w64 (ofZ w64 (c .before .z .given .0 .0)) ≡ c .before .z .given .0 .0 = search needs in (
@@ -102,47 +86,36 @@ loop-again c =
       omega arith,
     )
 
--- src/lib.rt:257:21
 enum-told : tie.Need-enum-told Inv-loop μ-loop
 enum-told c = search needs
 
--- src/lib.rt:257:21
 same-length : tie.Need-same-length Inv-loop μ-loop
 same-length c = search needs
 
--- src/lib.rt:257:21
 returns : tie.Need-returns Inv-loop μ-loop
 returns c = let e = form-not _ _ _ _ _ (c .before .before .before .before .before .before .loop-test .taken) refl (is-m (c .before .before .before)) (sym (c .before .before .value .ensures) ∙ c .enum-told .given .1) in (sym (c .before .before .before .before .before .before .before .loop .inv .0 ∙ ap takenOf e), sym (c .before .before .before .before .before .before .before .loop .inv .1 ∙ ap (λ (o : Out). sets (c .before .before .before .before .before .before .before .loop .vals) (c .before .before .before .before .before .before .before .loop .j) (o .vals)) e))
 
--- src/lib.rt:261:16
 byte-at-requires : tie.Need-byte-at-requires Inv-loop μ-loop
 byte-at-requires c κs = search needs
 
--- src/lib.rt:261:34
 wide-requires : tie.Need-wide-requires Inv-loop μ-loop
 wide-requires c κs = search needs
 
--- src/lib.rt:262:17
 same-length-2 : tie.Need-same-length-2 Inv-loop μ-loop
 same-length-2 c = search needs
 
--- src/lib.rt:262:17
 returns-2 : tie.Need-returns-2 Inv-loop μ-loop
 returns-2 c = let e = form-other _ _ _ _ _ (c .before .before .before .before .before .before .loop-test .taken) refl (no-m (c .before .before .before)) (other c) in (sym (c .before .before .before .before .before .before .before .loop .inv .0 ∙ ap takenOf e), sym (c .before .before .before .before .before .before .before .loop .inv .1 ∙ ap (λ (o : Out). sets (c .before .before .before .before .before .before .before .loop .vals) (c .before .before .before .before .before .before .before .loop .j) (o .vals)) e))
 
--- src/lib.rt:264:13
 add-at : tie.Need-add-at Inv-loop μ-loop
 add-at c = omega (arith, c .before .before .before .before .before .shared-slice-known3 .given (c .before .before .before .before .before .before .before .loop .k), byte-below (c .before .before .before .before .before .before .before .before .before .before .args .s .now) (c .before .before .before .before .before .before .before .loop .at) (omega (arith, c .before .before .before .before .before .shared-slice-known3 .given (c .before .before .before .before .before .before .before .loop .k))))
 
--- src/lib.rt:265:13
 add-k-2 : tie.Need-add-k-2 Inv-loop μ-loop
 add-k-2 c = search needs
 
--- src/lib.rt:246:5
 loop-less-2 : tie.Need-loop-less-2 Inv-loop μ-loop
 loop-less-2 c = search needs
 
--- src/lib.rt:246:5
 loop-again-2 : tie.Need-loop-again-2 Inv-loop μ-loop
 loop-again-2 c =
     let e = form-lit _ _ _ _ _ (c .before .before .before .before .before .before .loop-test .taken) refl (no-m (c .before .before .before)) (lit c) in (
@@ -153,11 +126,9 @@ loop-again-2 c =
       omega arith,
     )
 
--- src/lib.rt:238:1
 same-length-3 : tie.Need-same-length-3 Inv-loop μ-loop
 same-length-3 c = search needs
 
--- src/lib.rt:238:1
 returns-3 : tie.Need-returns-3 Inv-loop μ-loop
 returns-3 c = let e = form-end _ _ _ _ (c .loop-test .left) in (sym (c .before .loop .inv .0 ∙ ap takenOf e), sym (c .before .loop .inv .1 ∙ ap (λ (o : Out). sets (c .before .loop .vals) (c .before .loop .j) (o .vals)) e))
 

@@ -1,3 +1,4 @@
+-- `form::lines::many_len` meets its contract. Assumes nothing.
 use native.Mathlib.Omega.{arith}
 use borrow.Author.Needs.{needs}
 use mathlib.Core.Path.{_≡_, refl, sym, ap, _∙_}
@@ -7,9 +8,6 @@ use Rattle.form.proofs.PutRows.{Len, len-begin, len-room, len-turn, len
 use native.Mathlib.Nat.{zero-add}
 use Rattle.form.proofs.lines.many_len.Statement.{statement}
 use Rattle.form.proofs.lines.many_len.Tie as tie
-use Rattle.form.proofs.lines.many_len.Reads as reads
-use Rattle.form.proofs.lines.many_len.Lts as lts
-use Rattle.form.proofs.line.form_len.Reads as form-len-reads
 
 abbrev Inv-loop : tie.InvT-loop
 Inv-loop f w n vals first len₀ j₀ k₀ len j k = Len f w n vals first 0 len j k × (len ≤ k * 1344)
@@ -17,35 +15,27 @@ Inv-loop f w n vals first len₀ j₀ k₀ len j k = Len f w n vals first 0 len 
 abbrev μ-loop : tie.MeasureT-loop
 μ-loop f w n vals first len₀ j₀ k₀ len j k = n - k
 
--- src/lib.rt:736:5
 loop-holds : tie.Need-loop-holds Inv-loop μ-loop
 loop-holds c = (len-begin (now (c .before .args .f)) (c .before .args .w) (c .before .args .n) (now (c .before .args .vals)) (c .before .args .first) 0 (c .before .pre .1), omega arith)
 
--- src/lib.rt:737:16
 form-len-requires : tie.Need-form-len-requires Inv-loop μ-loop
 form-len-requires c κs = (len-room (now (c .before .before .before .args .f)) (c .before .before .before .args .w) (c .before .before .before .args .n) (now (c .before .before .before .args .vals)) (c .before .before .before .args .first) 0 (c .before .loop .len) (c .before .loop .j) (c .before .loop .k) (c .before .loop .inv .0) (c .loop-test .taken) (c .before .before .before .pre .0), omega (arith, c .before .before .before .pre .2))
 
--- src/lib.rt:737:9
 add-len : tie.Need-add-len Inv-loop μ-loop
 add-len c = omega (arith, c .form-len .ensures .1, c .before .before .before .before .pre .2, c .before .before .before .before .pre .3)
 
--- src/lib.rt:738:9
 add-j : tie.Need-add-j Inv-loop μ-loop
 add-j c = omega (arith, len-room (now (c .before .before .before .before .args .f)) (c .before .before .before .before .args .w) (c .before .before .before .before .args .n) (now (c .before .before .before .before .args .vals)) (c .before .before .before .before .args .first) 0 (c .before .before .loop .len) (c .before .before .loop .j) (c .before .before .loop .k) (c .before .before .loop .inv .0) (c .before .loop-test .taken) (c .before .before .before .before .pre .0), c .before .before .before .before .pre .0)
 
--- src/lib.rt:739:9
 add-k : tie.Need-add-k Inv-loop μ-loop
 add-k c = omega arith
 
--- src/lib.rt:736:5
 loop-less : tie.Need-loop-less Inv-loop μ-loop
 loop-less c = omega arith
 
--- src/lib.rt:736:5
 loop-again : tie.Need-loop-again Inv-loop μ-loop
 loop-again c = (len-turn (now (c .before .before .before .before .args .f)) (c .before .before .before .before .args .w) (c .before .before .before .before .args .n) (now (c .before .before .before .before .args .vals)) (c .before .before .before .before .args .first) 0 (c .before .before .loop .len) (c .before .before .loop .j) (c .before .before .loop .k) (c .before .before .loop .inv .0) (c .before .loop-test .taken) (c .before .before .before .before .pre .0) _ (ap (λ (x : ℕ). c .before .before .loop .len + x) (c .form-len .ensures .0)), omega (arith, c .form-len .ensures .1, c .before .before .before .before .pre .2))
 
--- src/lib.rt:729:1
 returns : tie.Need-returns Inv-loop μ-loop
 returns c = (len-done (now (c .before .before .before .args .f)) (c .before .before .before .args .w) (c .before .before .before .args .n) (now (c .before .before .before .args .vals)) (c .before .before .before .args .first) 0 (c .before .loop .len) (c .before .loop .j) (c .before .loop .k) (c .before .loop .inv .0) (c .loop-test .left) ∙ zero-add _, omega (arith, c .before .loop .inv .0 .low))
 

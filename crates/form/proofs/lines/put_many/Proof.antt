@@ -1,3 +1,4 @@
+-- `form::lines::put_many` meets its contract. Assumes nothing.
 use native.Mathlib.Omega.{arith}
 use borrow.Author.Needs.{needs}
 use mathlib.Core.Path.{_≡_, refl, sym, ap, _∙_}
@@ -6,9 +7,6 @@ use Prim.Native.Nat.{ℕ, _≤_, _*_, _-_, _+_}
 use Rattle.form.proofs.PutRows.{Put, put-begin, put-turn, put-done, len-room, len-fits}
 use Rattle.form.proofs.lines.put_many.Statement.{statement}
 use Rattle.form.proofs.lines.put_many.Tie as tie
-use Rattle.form.proofs.lines.put_many.Reads as reads
-use Rattle.form.proofs.lines.put_many.Lts as lts
-use Rattle.form.proofs.line.put_form.Reads as put-form-reads
 
 abbrev Inv-loop : tie.InvT-loop
 Inv-loop f w n vals first buf₀ from at₀ j₀ k₀ buf at j k = Put f w n vals first buf₀ from buf at j k
@@ -16,35 +14,27 @@ Inv-loop f w n vals first buf₀ from at₀ j₀ k₀ buf at j k = Put f w n val
 abbrev μ-loop : tie.MeasureT-loop
 μ-loop f w n vals first buf₀ from at₀ j₀ k₀ buf at j k = n - k
 
--- src/lib.rt:753:5
 loop-holds : tie.Need-loop-holds Inv-loop μ-loop
 loop-holds c = put-begin (now (c .before .before .args .f)) (c .before .before .args .w) (c .before .before .args .n) (now (c .before .before .args .vals)) (c .before .before .args .first) (now (c .before .before .args .buf)) (c .before .before .args .from) (c .before .before .pre .1)
 
--- src/lib.rt:754:9
 put-form-requires : tie.Need-put-form-requires Inv-loop μ-loop
 put-form-requires c κs = (len-room (now (c .before .before .before .before .before .args .f)) (c .before .before .before .before .before .args .w) (c .before .before .before .before .before .args .n) (now (c .before .before .before .before .before .args .vals)) (c .before .before .before .before .before .args .first) (c .before .before .before .before .before .args .from) (c .before .before .loop .at) (c .before .before .loop .j) (c .before .before .loop .k) (c .before .before .loop .inv .len) (c .before .loop-test .taken) (c .before .before .before .before .before .pre .0), omega (arith, len-fits (now (c .before .before .before .before .before .args .f)) (c .before .before .before .before .before .args .w) (c .before .before .before .before .before .args .n) (now (c .before .before .before .before .before .args .vals)) (c .before .before .before .before .before .args .first) (c .before .before .before .before .before .args .from) (c .before .before .loop .at) (c .before .before .loop .j) (c .before .before .loop .k) (c .before .before .loop .inv .len) (c .before .loop-test .taken) (c .before .before .before .before .before .pre .0), c .before .before .before .before .before .pre .2, c .before .before .loop .inv .same))
 
--- src/lib.rt:755:9
 add-j : tie.Need-add-j Inv-loop μ-loop
 add-j c = omega (arith, len-room (now (c .before .before .before .before .before .before .before .before .args .f)) (c .before .before .before .before .before .before .before .before .args .w) (c .before .before .before .before .before .before .before .before .args .n) (now (c .before .before .before .before .before .before .before .before .args .vals)) (c .before .before .before .before .before .before .before .before .args .first) (c .before .before .before .before .before .before .before .before .args .from) (c .before .before .before .before .before .loop .at) (c .before .before .before .before .before .loop .j) (c .before .before .before .before .before .loop .k) (c .before .before .before .before .before .loop .inv .len) (c .before .before .before .before .loop-test .taken) (c .before .before .before .before .before .before .before .before .pre .0), c .before .before .before .before .before .before .before .before .pre .0)
 
--- src/lib.rt:756:9
 add-k : tie.Need-add-k Inv-loop μ-loop
 add-k c = omega arith
 
--- src/lib.rt:753:5
 loop-less : tie.Need-loop-less Inv-loop μ-loop
 loop-less c = omega arith
 
--- src/lib.rt:753:5
 loop-again : tie.Need-loop-again Inv-loop μ-loop
 loop-again c = put-turn (now (c .before .before .before .before .before .before .before .before .args .f)) (c .before .before .before .before .before .before .before .before .args .w) (c .before .before .before .before .before .before .before .before .args .n) (now (c .before .before .before .before .before .before .before .before .args .vals)) (c .before .before .before .before .before .before .before .before .args .first) (now (c .before .before .before .before .before .before .before .before .args .buf)) (c .before .before .before .before .before .before .before .before .args .from) (c .before .before .before .before .before .loop .buf) (c .before .before .before .before .before .loop .at) (c .before .before .before .before .before .loop .j) (c .before .before .before .before .before .loop .k) (c .before .before .before .before .before .loop .inv) _ _ (c .before .before .before .before .loop-test .taken) (c .before .before .before .before .before .before .before .before .pre .0) (c .before .before .put-form .ensures .0) (c .before .before .put-form .ensures .1) (c .before .before .put-form .kept .1 .1 .1 .0)
 
--- src/lib.rt:745:1
 same-length : tie.Need-same-length Inv-loop μ-loop
 same-length c = c .before .loop .inv .same
 
--- src/lib.rt:745:1
 returns : tie.Need-returns Inv-loop μ-loop
 returns c = put-done (now (c .before .before .before .before .args .f)) (c .before .before .before .before .args .w) (c .before .before .before .before .args .n) (now (c .before .before .before .before .args .vals)) (c .before .before .before .before .args .first) (now (c .before .before .before .before .args .buf)) (c .before .before .before .before .args .from) (c .before .loop .buf) (c .before .loop .at) (c .before .loop .j) (c .before .loop .k) (c .before .loop .inv) (c .loop-test .left)
 

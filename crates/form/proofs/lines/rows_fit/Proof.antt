@@ -1,3 +1,4 @@
+-- `form::lines::rows_fit` meets its contract. Assumes nothing.
 use native.Mathlib.Omega.{arith}
 use borrow.Author.Needs.{needs}
 use mathlib.Core.Path.{_≡_, refl, sym, ap, _∙_}
@@ -12,9 +13,6 @@ use mir.Facts.{toZ-ofZ}
 use Rattle.form.proofs.Digits.{rowsfit-end, rowsfit-yes, rowsfit-no}
 use Rattle.form.proofs.lines.rows_fit.Statement.{statement}
 use Rattle.form.proofs.lines.rows_fit.Tie as tie
-use Rattle.form.proofs.lines.rows_fit.Reads as reads
-use Rattle.form.proofs.lines.rows_fit.Lts as lts
-use Rattle.form.proofs.line.form_fits.Reads as form-fits-reads
 use Rattle.form.specs.RunLaws.{rows-less}
 use Rattle.form.specs.Many.{rowsFit}
 
@@ -24,35 +22,27 @@ Inv-loop f w n vals first j₀ k₀ j k = (rowsFit n f (drop first vals) ≡ row
 abbrev μ-loop : tie.MeasureT-loop
 μ-loop f w n vals first j₀ k₀ j k = n - k
 
--- src/lib.rt:806:5
 loop-holds : tie.Need-loop-holds Inv-loop μ-loop
 loop-holds c = let e : c .before .args .n - 0 ≡ c .before .args .n = omega arith in (rw e, rw e (c .before .pre .1), omega arith)
 
--- src/lib.rt:807:12
 form-fits-requires : tie.Need-form-fits-requires Inv-loop μ-loop
 form-fits-requires c κs = omega (arith, rows-less (c .before .before .before .args .n) (c .before .loop .k) (c .before .before .before .args .w) (c .loop-test .taken), c .before .before .before .pre .0)
 
--- src/lib.rt:808:13
 add-j : tie.Need-add-j Inv-loop μ-loop
 add-j c = omega (arith, rows-less (c .before .before .before .before .before .args .n) (c .before .before .before .loop .k) (c .before .before .before .before .before .args .w) (c .before .before .loop-test .taken), c .before .before .before .before .before .pre .0)
 
--- src/lib.rt:809:13
 add-k : tie.Need-add-k Inv-loop μ-loop
 add-k c = search needs
 
--- src/lib.rt:806:5
 loop-less : tie.Need-loop-less Inv-loop μ-loop
 loop-less c = search needs
 
--- src/lib.rt:806:5
 loop-again : tie.Need-loop-again Inv-loop μ-loop
 loop-again c = (c .before .before .before .loop .inv .0 ∙ rowsfit-yes (c .before .before .before .before .before .args .n) (c .before .before .before .loop .k) (c .before .before .before .loop .j) (c .before .before .before .before .before .args .w) (now (c .before .before .before .before .before .args .f)) (now (c .before .before .before .before .before .args .vals)) (c .before .before .loop-test .taken) (c .before .before .before .before .before .pre .0) (sym (c .before .form-fits .ensures) ∙ c .if1 .taken), omega (arith, rows-less (c .before .before .before .before .before .args .n) (c .before .before .before .loop .k) (c .before .before .before .before .before .args .w) (c .before .before .loop-test .taken)), omega arith)
 
--- src/lib.rt:811:13
 returns : tie.Need-returns Inv-loop μ-loop
 returns c = sym (c .before .before .before .loop .inv .0 ∙ rowsfit-no (c .before .before .before .before .before .args .n) (c .before .before .before .loop .k) (c .before .before .before .loop .j) (c .before .before .before .before .before .args .w) (now (c .before .before .before .before .before .args .f)) (now (c .before .before .before .before .before .args .vals)) (c .before .before .loop-test .taken) (c .before .before .before .before .before .pre .0) (sym (c .before .form-fits .ensures) ∙ c .if1 .left))
 
--- src/lib.rt:800:1
 returns-2 : tie.Need-returns-2 Inv-loop μ-loop
 returns-2 c = sym (c .before .loop .inv .0 ∙ rowsfit-end (c .before .before .before .args .n - c .before .loop .k) (now (c .before .before .before .args .f)) (drop (c .before .loop .j) (now (c .before .before .before .args .vals))) (omega arith))
 

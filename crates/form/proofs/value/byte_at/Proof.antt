@@ -1,25 +1,20 @@
+-- `form::value::byte_at` meets its contract. Assumes nothing.
 use Rattle.form.proofs.Digits.{byte-end, byte-in}
 use native.Mathlib.Omega.{arith}
 use mathlib.Core.Path.{sym}
 use borrow.Author.Needs.{needs}
 use Rattle.form.proofs.value.byte_at.Statement.{statement}
 use Rattle.form.proofs.value.byte_at.Tie as tie
-use Rattle.form.proofs.value.byte_at.Reads as reads
-use Rattle.form.proofs.value.byte_at.Lts as lts
 
--- src/lib.rt:184:9
 returns : tie.Need-returns
 returns c = sym (byte-end _ _ (c .if1 .taken))
 
--- src/lib.rt:186:5
 shared-slice-read-result : tie.Need-shared-slice-read-result
 shared-slice-read-result c = search needs
 
--- src/lib.rt:186:5
 cast-result : tie.Need-cast-result
 cast-result c = omega (arith, c .shared-slice-known .given (c .before .before .args .at))
 
--- src/lib.rt:180:1
 returns-2 : tie.Need-returns-2
 returns-2 c = sym (byte-in _ _ (search needs))
 

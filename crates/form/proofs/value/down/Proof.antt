@@ -1,3 +1,4 @@
+-- `form::value::down` meets its contract. Assumes nothing.
 use Rattle.form.proofs.Digits.{neg-suc}
 use Rattle.form.specs.declared.value.Val.the-variants.{Got}
 use native.Mathlib.Omega.{arith}
@@ -8,31 +9,22 @@ use lib.IntN.{ℤ}
 use borrow.Author.Needs.{needs}
 use Rattle.form.proofs.value.down.Statement.{statement}
 use Rattle.form.proofs.value.down.Tie as tie
-use Rattle.form.proofs.value.down.Reads as reads
-use Rattle.form.proofs.value.down.Lts as lts
-use Rattle.form.proofs.decimal.minus.Reads as minus-reads
 
--- src/lib.rt:204:20
 enum-known-n : tie.Need-enum-known-n
 enum-known-n c = search needs
 
--- src/lib.rt:208:26
 minus-requires : tie.Need-minus-requires
 minus-requires c κs = let g = rw (c .before .before .n .given .1) at (c .before .before .before .before .pre) in omega arith
 
--- src/lib.rt:211:21
 enum-told : tie.Need-enum-told
 enum-told c = search needs
 
--- src/lib.rt:199:1
 returns : tie.Need-returns
 returns c = search needs
 
--- src/lib.rt:199:1
 returns-2 : tie.Need-returns-2
 returns-2 c = let e : toZ w64 (ofZ w64 (c .minus .result)) ≡ c .minus .result = search needs in rw (c .before .before .before .n .given .1, e, c .minus .ensures) (neg-suc _ _ (search needs))
 
--- src/lib.rt:199:1
 returns-3 : tie.Need-returns-3
 returns-3 c = search needs
 

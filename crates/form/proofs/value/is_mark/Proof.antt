@@ -1,14 +1,11 @@
+-- `form::value::is_mark` meets its contract. Assumes nothing.
 use borrow.Author.Tests.{le-ltb, lt-ltb}
 use Rattle.form.proofs.value.is_mark.Statement.{statement}
 use Rattle.form.proofs.value.is_mark.Tie as tie
-use Rattle.form.proofs.value.is_mark.Reads as reads
-use Rattle.form.proofs.value.is_mark.Lts as lts
 
--- src/lib.rt:281:9
 returns : tie.Need-returns
 returns c = simp (lt-ltb _ _ (c .if1 .taken))
 
--- src/lib.rt:277:1
 returns-2 : tie.Need-returns-2
 returns-2 c = simp (le-ltb _ _ (c .if1 .left))
 

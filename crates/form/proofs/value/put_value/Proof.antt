@@ -1,3 +1,4 @@
+-- `form::value::put_value` meets its contract. Assumes nothing.
 use native.Mathlib.Omega.{arith}
 use mathlib.Core.Path.{_≡_, ap, sym, _∙_, refl}
 use lib.ListN.{length, length-set}
@@ -9,70 +10,49 @@ use Rattle.form.specs.FormLaws.{text-hex, text-neg, text-pos, len-hex}
 use borrow.Author.Needs.{needs}
 use Rattle.form.proofs.value.put_value.Statement.{statement}
 use Rattle.form.proofs.value.put_value.Tie as tie
-use Rattle.form.proofs.value.put_value.Reads as reads
-use Rattle.form.proofs.value.put_value.Lts as lts
-use Rattle.form.proofs.decimal.negative.Reads as negative-reads
-use Rattle.form.proofs.decimal.put_dec.Reads as put-dec-reads
-use Rattle.form.proofs.hex.put_hex.Reads as put-hex-reads
-use Rattle.form.proofs.decimal.size.Reads as size-reads
 
--- src/lib.rt:311:27
 size-requires : tie.Need-size-requires
 size-requires c κs = search needs
 
--- src/lib.rt:311:9
 put-hex-requires : tie.Need-put-hex-requires
 put-hex-requires c κs = omega (arith, len-hex (c .before .before .before .before .args .c) (c .before .before .before .before .args .z) (c .before .before .if1 .taken))
 
--- src/lib.rt:311:9
 same-length : tie.Need-same-length
 same-length c = search needs
 
--- src/lib.rt:311:9
 returns : tie.Need-returns
 returns c = (omega (arith, len-hex (c .before .before .before .before .before .before .before .args .c) (c .before .before .before .before .before .before .before .args .z) (c .before .before .before .before .before .if1 .taken)), rw (text-hex (c .before .before .before .before .before .before .before .args .c) (c .before .before .before .before .before .before .before .args .z) (c .before .before .before .before .before .if1 .taken), ← (rw (toZ-ofZ (c .before .before .before .before .before .before .before .fits .z)) at (c .before .before .before .before .size .ensures))) (c .before .before .put-hex .ensures .1))
 
--- src/lib.rt:313:8
 negative-requires : tie.Need-negative-requires
 negative-requires c κs = search needs
 
--- src/lib.rt:314:9
 slice-write-buf : tie.Need-slice-write-buf
 slice-write-buf c = omega (arith, ap length (text-neg (c .before .before .before .before .args .c) (c .before .before .before .before .args .z) (c .before .before .if1 .left) (sym (rw (toZ-ofZ (c .before .before .before .before .fits .z)) at (c .before .negative .ensures)) ∙ c .if2 .taken)))
 
--- src/lib.rt:315:24
 size-requires-2 : tie.Need-size-requires-2
 size-requires-2 c κs = search needs
 
--- src/lib.rt:315:38
 add-put-dec : tie.Need-add-put-dec
 add-put-dec c = search needs
 
--- src/lib.rt:315:9
 put-dec-requires : tie.Need-put-dec-requires
 put-dec-requires c κs = simp length-set (omega (arith, ap length (text-neg (c .before .before .before .before .before .before .args .c) (c .before .before .before .before .before .before .args .z) (c .before .before .before .before .if1 .left) (sym (rw (toZ-ofZ (c .before .before .before .before .before .before .fits .z)) at (c .before .before .before .negative .ensures)) ∙ c .before .before .if2 .taken)), ap (λ (n : ℕ). length (dec n)) (rw (toZ-ofZ (c .before .before .before .before .before .before .fits .z)) at (c .before .size2 .ensures))))
 
--- src/lib.rt:315:9
 same-length-2 : tie.Need-same-length-2
 same-length-2 c = c .before .before .put-dec .kept .1 .0 ∙ simp length-set
 
--- src/lib.rt:315:9
 returns-2 : tie.Need-returns-2
 returns-2 c = (omega (arith, ap length (text-neg (c .before .before .before .before .before .before .before .before .before .args .c) (c .before .before .before .before .before .before .before .before .before .args .z) (c .before .before .before .before .before .before .before .if1 .left) (sym (rw (toZ-ofZ (c .before .before .before .before .before .before .before .before .before .fits .z)) at (c .before .before .before .before .before .before .negative .ensures)) ∙ c .before .before .before .before .before .if2 .taken)), ap (λ (n : ℕ). length (dec n)) (rw (toZ-ofZ (c .before .before .before .before .before .before .before .before .before .fits .z)) at (c .before .before .before .before .size2 .ensures))), rw (text-neg (c .before .before .before .before .before .before .before .before .before .args .c) (c .before .before .before .before .before .before .before .before .before .args .z) (c .before .before .before .before .before .before .before .if1 .left) (sym (rw (toZ-ofZ (c .before .before .before .before .before .before .before .before .before .fits .z)) at (c .before .before .before .before .before .before .negative .ensures)) ∙ c .before .before .before .before .before .if2 .taken), ← (rw (toZ-ofZ (c .before .before .before .before .before .before .before .before .before .fits .z)) at (c .before .before .before .before .size2 .ensures))) (rw (add-one (c .before .before .before .before .before .before .before .before .before .args .at)) at (c .before .before .put-dec .ensures .1)))
 
--- src/lib.rt:317:13
 size-requires-3 : tie.Need-size-requires-3
 size-requires-3 c κs = search needs
 
--- src/lib.rt:317:5
 put-dec-requires-2 : tie.Need-put-dec-requires-2
 put-dec-requires-2 c κs = omega (arith, ap length (text-pos (c .before .before .before .before .before .before .args .c) (c .before .before .before .before .before .before .args .z) (c .before .before .before .before .if1 .left) (sym (rw (toZ-ofZ (c .before .before .before .before .before .before .fits .z)) at (c .before .before .before .negative .ensures)) ∙ c .before .before .if2 .left)), ap (λ (n : ℕ). length (dec n)) (rw (toZ-ofZ (c .before .before .before .before .before .before .fits .z)) at (c .before .size3 .ensures)))
 
--- src/lib.rt:306:1
 same-length-3 : tie.Need-same-length-3
 same-length-3 c = search needs
 
--- src/lib.rt:306:1
 returns-3 : tie.Need-returns-3
 returns-3 c = (omega (arith, ap length (text-pos (c .before .before .before .before .before .before .before .before .before .args .c) (c .before .before .before .before .before .before .before .before .before .args .z) (c .before .before .before .before .before .before .before .if1 .left) (sym (rw (toZ-ofZ (c .before .before .before .before .before .before .before .before .before .fits .z)) at (c .before .before .before .before .before .before .negative .ensures)) ∙ c .before .before .before .before .before .if2 .left)), ap (λ (n : ℕ). length (dec n)) (rw (toZ-ofZ (c .before .before .before .before .before .before .before .before .before .fits .z)) at (c .before .before .before .before .size3 .ensures))), rw (text-pos (c .before .before .before .before .before .before .before .before .before .args .c) (c .before .before .before .before .before .before .before .before .before .args .z) (c .before .before .before .before .before .before .before .if1 .left) (sym (rw (toZ-ofZ (c .before .before .before .before .before .before .before .before .before .fits .z)) at (c .before .before .before .before .before .before .negative .ensures)) ∙ c .before .before .before .before .before .if2 .left), ← (rw (toZ-ofZ (c .before .before .before .before .before .before .before .before .before .fits .z)) at (c .before .before .before .before .size3 .ensures))) (c .before .before .put-dec2 .ensures .1))
 

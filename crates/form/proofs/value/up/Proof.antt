@@ -1,3 +1,4 @@
+-- `form::value::up` meets its contract. Assumes nothing.
 use Rattle.form.specs.declared.value.Val.the-variants.{Got}
 use native.Mathlib.Omega.{arith}
 use mathlib.Core.Path.{_≡_, ap, sym, _∙_}
@@ -7,27 +8,19 @@ use lib.IntN.{ℤ}
 use borrow.Author.Needs.{needs}
 use Rattle.form.proofs.value.up.Statement.{statement}
 use Rattle.form.proofs.value.up.Tie as tie
-use Rattle.form.proofs.value.up.Reads as reads
-use Rattle.form.proofs.value.up.Lts as lts
-use Rattle.form.proofs.decimal.plus.Reads as plus-reads
 
--- src/lib.rt:194:20
 enum-known-n : tie.Need-enum-known-n
 enum-known-n c = search needs
 
--- src/lib.rt:194:38
 plus-requires : tie.Need-plus-requires
 plus-requires c κs = let g = rw (c .before .n .given .1) at (c .before .before .before .pre) in omega arith
 
--- src/lib.rt:195:21
 enum-told : tie.Need-enum-told
 enum-told c = search needs
 
--- src/lib.rt:189:1
 returns : tie.Need-returns
 returns c = let e : toZ w64 (ofZ w64 (c .plus .result)) ≡ c .plus .result = search needs in rw (c .before .before .n .given .1, e, c .plus .ensures)
 
--- src/lib.rt:189:1
 returns-2 : tie.Need-returns-2
 returns-2 c = search needs
 

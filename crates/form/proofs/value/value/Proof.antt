@@ -1,3 +1,4 @@
+-- `form::value::value` meets its contract. Assumes nothing.
 use Rattle.form.proofs.Digits.{val-dec, val-neg, val-pos, val-hex}
 use native.Mathlib.Omega.{arith}
 use mathlib.Core.Path.{_≡_, ap, sym, _∙_}
@@ -7,67 +8,46 @@ use borrow.Author.Tests.{eq-eqb, ne-eqb}
 use borrow.Author.Needs.{needs}
 use Rattle.form.proofs.value.value.Statement.{statement}
 use Rattle.form.proofs.value.value.Tie as tie
-use Rattle.form.proofs.value.value.Reads as reads
-use Rattle.form.proofs.value.value.Lts as lts
-use Rattle.form.proofs.value.byte_at.Reads as byte-at-reads
-use Rattle.form.proofs.value.down.Reads as down-reads
-use Rattle.form.proofs.hex.hex_number.Reads as hex-number-reads
-use Rattle.form.proofs.decimal.number.Reads as number-reads
-use Rattle.form.proofs.value.up.Reads as up-reads
 
--- src/lib.rt:220:19
 number-requires : tie.Need-number-requires
 number-requires c κs = search needs
 
--- src/lib.rt:220:9
 up-requires : tie.Need-up-requires
 up-requires c κs = at-most _ _ _ _ (omega arith) (omega arith) (c .number .ensures)
 
--- src/lib.rt:220:9
 returns : tie.Need-returns
 returns c = val-dec _ _ _ (c .up .ensures) (c .before .number .ensures) (search needs)
 
--- src/lib.rt:223:12
 byte-at-requires : tie.Need-byte-at-requires
 byte-at-requires c κs = search needs
 
--- src/lib.rt:224:35
 add-number : tie.Need-add-number
 add-number c = omega (arith, byte-below (c .before .before .before .before .before .args .s .now) (c .before .before .before .before .before .args .at) (omega arith))
 
--- src/lib.rt:224:25
 number-requires-2 : tie.Need-number-requires-2
 number-requires-2 c κs = search needs
 
--- src/lib.rt:224:13
 down-requires : tie.Need-down-requires
 down-requires c κs = at-most _ _ _ _ (omega arith) (omega arith) (c .number2 .ensures)
 
--- src/lib.rt:224:13
 returns-2 : tie.Need-returns-2
 returns-2 c = val-neg _ _ _ (c .down .ensures) (c .before .number2 .ensures) (search needs) (omega arith)
 
--- src/lib.rt:226:19
 number-requires-3 : tie.Need-number-requires-3
 number-requires-3 c κs = search needs
 
--- src/lib.rt:226:9
 up-requires-2 : tie.Need-up-requires-2
 up-requires-2 c κs = at-most _ _ _ _ (omega arith) (omega arith) (c .number3 .ensures)
 
--- src/lib.rt:226:9
 returns-3 : tie.Need-returns-3
 returns-3 c = val-pos _ _ _ (c .up2 .ensures) (c .before .number3 .ensures) (search needs) (omega arith)
 
--- src/lib.rt:228:8
 hex-number-requires : tie.Need-hex-number-requires
 hex-number-requires c κs = search needs
 
--- src/lib.rt:228:5
 up-requires-3 : tie.Need-up-requires-3
 up-requires-3 c κs = hex-most _ _ (c .hex-number .ensures)
 
--- src/lib.rt:216:1
 returns-4 : tie.Need-returns-4
 returns-4 c = val-hex _ _ _ (c .up3 .ensures) (c .before .hex-number .ensures) (search needs) (search needs)
 

@@ -1,3 +1,4 @@
+-- `form::value::value_fits` meets its contract. Assumes nothing.
 use native.Mathlib.Omega.{arith}
 use mathlib.Core.Path.{_≡_, refl, sym, ap, _∙_}
 use mathlib.Core.Bool.{true, false}
@@ -13,28 +14,19 @@ use lib.Dec.{ltb}
 use borrow.Author.Needs.{needs}
 use Rattle.form.proofs.value.value_fits.Statement.{statement}
 use Rattle.form.proofs.value.value_fits.Tie as tie
-use Rattle.form.proofs.value.value_fits.Reads as reads
-use Rattle.form.proofs.value.value_fits.Lts as lts
-use Rattle.form.proofs.decimal.negative.Reads as negative-reads
-use Rattle.form.proofs.decimal.size.Reads as size-reads
 
--- src/lib.rt:768:9
 returns : tie.Need-returns
 returns c = ok-signed (c .before .args .c) (c .before .args .z) (c .before .fits .z) (c .if1 .taken)
 
--- src/lib.rt:770:8
 negative-requires : tie.Need-negative-requires
 negative-requires c κs = search needs
 
--- src/lib.rt:771:9
 returns-2 : tie.Need-returns-2
 returns-2 c = ok-neg (c .before .before .before .args .c) (c .before .before .before .args .z) (c .before .before .if1 .left) (sym (rw (toZ-ofZ (c .before .before .before .fits .z)) at (c .before .negative .ensures)) ∙ c .if2 .taken)
 
--- src/lib.rt:773:5
 size-requires : tie.Need-size-requires
 size-requires c κs = search needs
 
--- src/lib.rt:764:1
 returns-3 : tie.Need-returns-3
 returns-3 c = ap (λ (x : ℕ). ltb x 4294967296) (rw (toZ-ofZ (c .before .before .before .before .fits .z)) at (c .size .ensures)) ∙ ok-pos (c .before .before .before .before .args .c) (c .before .before .before .before .args .z) (c .before .before .before .if1 .left) (sym (rw (toZ-ofZ (c .before .before .before .before .fits .z)) at (c .before .before .negative .ensures)) ∙ c .before .if2 .left)
 

@@ -1,3 +1,4 @@
+-- `form::value::value_len` meets its contract. Assumes nothing.
 use mir.Facts.{toZ-ofZ}
 use native.Mathlib.Omega.{arith}
 use mathlib.Core.Path.{_≡_, ap, sym, _∙_, refl}
@@ -12,45 +13,31 @@ use Rattle.form.specs.Dec.{dec}
 use borrow.Author.Needs.{needs}
 use Rattle.form.proofs.value.value_len.Statement.{statement}
 use Rattle.form.proofs.value.value_len.Tie as tie
-use Rattle.form.proofs.value.value_len.Reads as reads
-use Rattle.form.proofs.value.value_len.Lts as lts
-use Rattle.form.proofs.decimal.dec_len.Reads as dec-len-reads
-use Rattle.form.proofs.decimal.negative.Reads as negative-reads
-use Rattle.form.proofs.decimal.size.Reads as size-reads
 
--- src/lib.rt:297:9
 returns : tie.Need-returns
 returns c = omega (arith, len-hex (c .before .args .c) (c .before .args .z) (c .if1 .taken))
 
--- src/lib.rt:299:8
 negative-requires : tie.Need-negative-requires
 negative-requires c κs = search needs
 
--- src/lib.rt:300:24
 size-requires : tie.Need-size-requires
 size-requires c κs = search needs
 
--- src/lib.rt:300:16
 dec-len-requires : tie.Need-dec-len-requires
 dec-len-requires c κs = search needs
 
--- src/lib.rt:300:16
 add-result : tie.Need-add-result
 add-result c = omega (arith, len-val (c .before .before .before .before .before .args .c) (c .before .before .before .before .before .args .z) (c .before .before .before .before .before .fits .z), ap length (text-neg (c .before .before .before .before .before .args .c) (c .before .before .before .before .before .args .z) (c .before .before .before .before .if1 .left) (sym (rw (toZ-ofZ (c .before .before .before .before .before .fits .z)) at (c .before .before .before .negative .ensures)) ∙ c .before .before .if2 .taken)), (c .dec-len .ensures ∙ ap (λ (n : ℕ). length (dec n)) (rw (toZ-ofZ (c .before .before .before .before .before .fits .z)) at (c .before .size .ensures))))
 
--- src/lib.rt:300:9
 returns-2 : tie.Need-returns-2
 returns-2 c = omega (arith, len-val (c .before .before .before .before .before .args .c) (c .before .before .before .before .before .args .z) (c .before .before .before .before .before .fits .z), ap length (text-neg (c .before .before .before .before .before .args .c) (c .before .before .before .before .before .args .z) (c .before .before .before .before .if1 .left) (sym (rw (toZ-ofZ (c .before .before .before .before .before .fits .z)) at (c .before .before .before .negative .ensures)) ∙ c .before .before .if2 .taken)), (c .dec-len .ensures ∙ ap (λ (n : ℕ). length (dec n)) (rw (toZ-ofZ (c .before .before .before .before .before .fits .z)) at (c .before .size .ensures))))
 
--- src/lib.rt:302:13
 size-requires-2 : tie.Need-size-requires-2
 size-requires-2 c κs = search needs
 
--- src/lib.rt:302:5
 dec-len-requires-2 : tie.Need-dec-len-requires-2
 dec-len-requires-2 c κs = search needs
 
--- src/lib.rt:293:1
 returns-3 : tie.Need-returns-3
 returns-3 c = omega (arith, len-val (c .before .before .before .before .before .args .c) (c .before .before .before .before .before .args .z) (c .before .before .before .before .before .fits .z), ap length (text-pos (c .before .before .before .before .before .args .c) (c .before .before .before .before .before .args .z) (c .before .before .before .before .if1 .left) (sym (rw (toZ-ofZ (c .before .before .before .before .before .fits .z)) at (c .before .before .before .negative .ensures)) ∙ c .before .before .if2 .left)), (c .dec-len2 .ensures ∙ ap (λ (n : ℕ). length (dec n)) (rw (toZ-ofZ (c .before .before .before .before .before .fits .z)) at (c .before .size2 .ensures))))
 

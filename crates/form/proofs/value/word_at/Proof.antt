@@ -1,3 +1,4 @@
+-- `form::value::word_at` meets its contract. Assumes nothing.
 use mathlib.Core.Path.{_≡_}
 use mir.Val.{toZ, ofZ}
 use mir.Syntax.{w64}
@@ -7,23 +8,16 @@ use denote.Ref.{now}
 use borrow.Author.Needs.{needs}
 use Rattle.form.proofs.value.word_at.Statement.{statement}
 use Rattle.form.proofs.value.word_at.Tie as tie
-use Rattle.form.proofs.value.word_at.Reads as reads
-use Rattle.form.proofs.value.word_at.Lts as lts
-use Rattle.form.proofs.value.word.Reads as word-reads
 
--- src/lib.rt:423:10
 mul-word : tie.Need-mul-word
 mul-word c = search needs
 
--- src/lib.rt:423:10
 shared-slice-copy-out-word : tie.Need-shared-slice-copy-out-word
 shared-slice-copy-out-word c = search needs
 
--- src/lib.rt:423:5
 word-requires : tie.Need-word-requires
 word-requires c κs = search needs
 
--- src/lib.rt:419:1
 returns : tie.Need-returns
 returns c = let e : toZ w64 (ofZ w64 (getD (now (c .before .before .args .v)) (c .before .before .args .i) (pos 0))) ≡ getD (now (c .before .before .args .v)) (c .before .before .args .i) (pos 0) = search needs in rw e at (c .word .ensures)
 

@@ -1,3 +1,4 @@
+-- `text::card::card_counts` meets its contract. Assumes nothing.
 use native.Mathlib.Omega.{arith}
 use mathlib.Core.Path.{_≡_, refl, sym, ap, _∙_}
 use denote.Ref.{now}
@@ -6,43 +7,33 @@ use Rattle.text.proofs.card.card_counts.Statement.{statement}
 use Rattle.text.proofs.card.card_counts.Tie as tie
 use Rattle.text.specs.CardLaws.{head-good, head-bad}
 
--- src/lib.rt:614:29
 slice-aggregate-read-form : tie.Need-slice-aggregate-read-form
 slice-aggregate-read-form c = search needs
 
--- src/lib.rt:614:36
 slice-aggregate-read-form-2 : tie.Need-slice-aggregate-read-form-2
 slice-aggregate-read-form-2 c = search needs
 
--- src/lib.rt:614:9
 read-form-requires : tie.Need-read-form-requires
 read-form-requires c κs = search needs
 
--- src/lib.rt:617:43
 slice-aggregate-word-at : tie.Need-slice-aggregate-word-at
 slice-aggregate-word-at c = search needs
 
--- src/lib.rt:617:35
 word-at-requires : tie.Need-word-at-requires
 word-at-requires c κs = search needs
 
--- src/lib.rt:617:59
 slice-aggregate-word-at-2 : tie.Need-slice-aggregate-word-at-2
 slice-aggregate-word-at-2 c = search needs
 
--- src/lib.rt:617:51
 word-at-requires-2 : tie.Need-word-at-requires-2
 word-at-requires-2 c κs = search needs
 
--- src/lib.rt:617:9
 range-counts-requires : tie.Need-range-counts-requires
 range-counts-requires c κs = search needs
 
--- src/lib.rt:617:9
 returns : tie.Need-returns
 returns c = head-good _ _ (c .before .before .before .before .before .before .before .read-form .ensures .0) _ _ _ _ _ (c .before .before .before .before .before .if1 .taken) (c .before .before .before .before .before .before .before .read-form .ensures .1) refl (c .range-counts .ensures) (c .before .before .before .word-at .ensures) (c .before .word-at2 .ensures)
 
--- src/lib.rt:610:1
 returns-2 : tie.Need-returns-2
 returns-2 c = head-bad _ _ (c .before .before .read-form .ensures .0) (c .if1 .left)
 

@@ -1,37 +1,31 @@
+-- `text::card::card_given` meets its contract. Assumes nothing.
 use borrow.Author.Tests.{le-ltb, lt-ltb}
 use borrow.Author.Needs.{needs}
 use Rattle.text.proofs.card.card_given.Statement.{statement}
 use Rattle.text.proofs.card.card_given.Tie as tie
 use Rattle.text.specs.Cards.{given}
 
--- src/lib.rt:857:9
 returns : tie.Need-returns
 unfolding given
 returns c = rw (lt-ltb _ _ (c .if1 .taken))
 
--- src/lib.rt:860:9
 returns-2 : tie.Need-returns-2
 unfolding given
 returns-2 c = rw (le-ltb _ _ (c .before .before .if1 .left), lt-ltb _ _ (c .if2 .taken))
 
--- src/lib.rt:863:9
 returns-3 : tie.Need-returns-3
 unfolding given
 returns-3 c = rw (le-ltb _ _ (c .before .before .before .before .if1 .left), le-ltb _ _ (c .before .before .if2 .left), lt-ltb _ _ (c .if3 .taken))
 
--- src/lib.rt:866:15
 slice-aggregate-zero-from : tie.Need-slice-aggregate-zero-from
 slice-aggregate-zero-from c = search needs
 
--- src/lib.rt:866:19
 cast-zero-from : tie.Need-cast-zero-from
 cast-zero-from c = search needs
 
--- src/lib.rt:866:5
 zero-from-requires : tie.Need-zero-from-requires
 zero-from-requires c κs = search needs
 
--- src/lib.rt:853:1
 returns-4 : tie.Need-returns-4
 unfolding given
 returns-4 c = rw (le-ltb _ _ (c .before .before .before .before .before .before .before .before .if1 .left), le-ltb _ _ (c .before .before .before .before .before .before .if2 .left), le-ltb _ _ (c .before .before .before .before .if3 .left)) (c .zero-from .ensures)

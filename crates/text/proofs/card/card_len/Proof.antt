@@ -1,3 +1,4 @@
+-- `text::card::card_len` meets its contract. Assumes nothing.
 use native.Mathlib.Omega.{arith}
 use mathlib.Core.Path.{_≡_, refl, sym, ap, _∙_}
 use mathlib.Core.Bool.{true, false}
@@ -13,43 +14,33 @@ use Rattle.text.proofs.card.card_len.Statement.{statement}
 use Rattle.text.proofs.card.card_len.Tie as tie
 use Rattle.text.specs.CardTexts.{parts-length}
 
--- src/lib.rt:874:22
 slice-aggregate-form-len : tie.Need-slice-aggregate-form-len
 slice-aggregate-form-len c = search needs
 
--- src/lib.rt:874:9
 form-len-requires : tie.Need-form-len-requires
 form-len-requires c κs = search needs
 
--- src/lib.rt:875:22
 slice-aggregate-many-len : tie.Need-slice-aggregate-many-len
 slice-aggregate-many-len c = search needs
 
--- src/lib.rt:875:9
 many-len-requires : tie.Need-many-len-requires
 many-len-requires c κs = search needs
 
--- src/lib.rt:876:22
 slice-aggregate-many-len-2 : tie.Need-slice-aggregate-many-len-2
 slice-aggregate-many-len-2 c = search needs
 
--- src/lib.rt:876:9
 many-len-requires-2 : tie.Need-many-len-requires-2
 many-len-requires-2 c κs = search needs
 
--- src/lib.rt:877:5
 add-result : tie.Need-add-result
 add-result c = search needs
 
--- src/lib.rt:877:5
 add-result-2 : tie.Need-add-result-2
 add-result-2 c = search needs
 
--- src/lib.rt:877:5
 add-result-3 : tie.Need-add-result-3
 add-result-3 c = search needs
 
--- src/lib.rt:870:1
 returns : tie.Need-returns
 returns c = omega (arith, parts-length (now (c .before .before .before .before .before .before .args .h)) (c .before .before .before .before .before .before .args .m) (now (c .before .before .before .before .before .before .args .ds)) (c .before .before .before .before .before .before .args .n) (now (c .before .before .before .before .before .before .args .soil)), c .before .before .before .before .form-len .ensures .0, c .before .before .many-len .ensures .0, c .many-len2 .ensures .0)
 

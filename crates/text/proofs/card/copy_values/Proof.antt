@@ -1,3 +1,4 @@
+-- `text::card::copy_values` meets its contract. Assumes nothing.
 use native.Mathlib.Omega.{arith}
 use borrow.Author.Needs.{needs}
 use mathlib.Core.Path.{_≡_, refl, sym, ap, _∙_}
@@ -20,43 +21,33 @@ Inv-loop src n dst₀ k₀ dst k = (dst ≡ take k src ++ drop k dst₀) × (len
 abbrev μ-loop : tie.MeasureT-loop
 μ-loop src n dst₀ k₀ dst k = n - k
 
--- src/lib.rt:682:5
 loop-holds : tie.Need-loop-holds Inv-loop μ-loop
 loop-holds c = (refl, refl, omega arith)
 
--- src/lib.rt:683:18
 mul-dst : tie.Need-mul-dst Inv-loop μ-loop
 mul-dst c = search needs
 
--- src/lib.rt:683:18
 shared-slice-copy-out-dst : tie.Need-shared-slice-copy-out-dst Inv-loop μ-loop
 shared-slice-copy-out-dst c = search needs
 
--- src/lib.rt:683:9
 mul-t9 : tie.Need-mul-t9 Inv-loop μ-loop
 mul-t9 c = search needs
 
--- src/lib.rt:683:9
 slice-set-from-dst : tie.Need-slice-set-from-dst Inv-loop μ-loop
 slice-set-from-dst c = search needs
 
--- src/lib.rt:684:9
 add-k : tie.Need-add-k Inv-loop μ-loop
 add-k c = search needs
 
--- src/lib.rt:682:5
 loop-less : tie.Need-loop-less Inv-loop μ-loop
 loop-less c = search needs
 
--- src/lib.rt:682:5
 loop-again : tie.Need-loop-again Inv-loop μ-loop
 loop-again c = let e : toZ w64 (ofZ w64 (getD (now (c .before .before .before .args .src)) (c .before .before .loop .k) (pos 0))) ≡ getD (now (c .before .before .before .args .src)) (c .before .before .loop .k) (pos 0) = search needs in (rw (e, add-one (c .before .before .loop .k), c .before .before .loop .inv .0) (copy-suc (now (c .before .before .before .args .src)) (now (c .before .before .before .args .dst)) (c .before .before .loop .k) (omega arith) (omega arith)), simp length-set (c .before .before .loop .inv .1), omega arith)
 
--- src/lib.rt:677:1
 same-length : tie.Need-same-length Inv-loop μ-loop
 same-length c = c .before .loop .inv .1
 
--- src/lib.rt:677:1
 returns : tie.Need-returns Inv-loop μ-loop
 returns c = let e : c .before .loop .k ≡ c .before .before .args .n = omega arith in c .before .loop .inv .0 ∙ rw e
 

@@ -1,3 +1,4 @@
+-- `text::card::count_values` meets its contract. Assumes nothing.
 use native.Mathlib.Omega.{arith}
 use mir.Facts.{toZ-pos}
 use mir.Syntax.{w64}
@@ -6,15 +7,12 @@ use borrow.Author.Needs.{needs}
 use Rattle.text.proofs.card.count_values.Statement.{statement}
 use Rattle.text.proofs.card.count_values.Tie as tie
 
--- src/lib.rt:849:6
 cast-t3 : tie.Need-cast-t3
 cast-t3 c = search needs
 
--- src/lib.rt:849:20
 cast-t4 : tie.Need-cast-t4
 cast-t4 c = search needs
 
--- src/lib.rt:846:1
 returns : tie.Need-returns
 returns c = λ i. toZ-pos w64 {n = c .args .cells} (omega arith) i ∷ toZ-pos w64 {n = c .args .delays} (omega arith) i ∷ []
 

@@ -1,3 +1,4 @@
+-- `text::card::depth_values` meets its contract. Assumes nothing.
 use native.Mathlib.Omega.{arith}
 use borrow.Author.Needs.{needs}
 use mathlib.Core.Path.{_≡_, refl, sym, ap, _∙_}
@@ -24,43 +25,33 @@ Inv-loop d v₀ k₀ v k = (sets v k (map pos (drop k d)) ≡ map pos d) × (len
 abbrev μ-loop : tie.MeasureT-loop
 μ-loop d v₀ k₀ v k = 30 - k
 
--- src/lib.rt:839:5
 loop-holds : tie.Need-loop-holds Inv-loop μ-loop
 loop-holds c = (sets-all _ (map pos (now (c .args .d))) (length-map (now (c .args .d)) pos ∙ c .pre), refl, omega arith)
 
--- src/lib.rt:840:16
 mul-v : tie.Need-mul-v Inv-loop μ-loop
 mul-v c = search needs
 
--- src/lib.rt:840:16
 shared-slice-read-v : tie.Need-shared-slice-read-v Inv-loop μ-loop
 shared-slice-read-v c = search needs
 
--- src/lib.rt:840:16
 cast-v : tie.Need-cast-v Inv-loop μ-loop
 cast-v c = record { sfits = omega (arith, c .shared-slice-known .given (c .before .before .loop .k)) }
 
--- src/lib.rt:840:9
 mul-v-2 : tie.Need-mul-v-2 Inv-loop μ-loop
 mul-v-2 c = search needs
 
--- src/lib.rt:840:9
 array-set-from-v : tie.Need-array-set-from-v Inv-loop μ-loop
 array-set-from-v c = search needs
 
--- src/lib.rt:841:9
 add-k : tie.Need-add-k Inv-loop μ-loop
 add-k c = search needs
 
--- src/lib.rt:839:5
 loop-less : tie.Need-loop-less Inv-loop μ-loop
 loop-less c = search needs
 
--- src/lib.rt:839:5
 loop-again : tie.Need-loop-again Inv-loop μ-loop
 loop-again c = (sym (vals-turn (c .before .before .loop .v) (now (c .before .before .before .args .d)) (c .before .before .loop .k) _ (omega arith) (toZ-pos w64 (omega (arith, c .shared-slice-known .given (c .before .before .loop .k))))) ∙ c .before .before .loop .inv .0, simp length-set (c .before .before .loop .inv .1), omega arith)
 
--- src/lib.rt:833:1
 returns : tie.Need-returns Inv-loop μ-loop
 returns c = rw (drop-of-length-le (now (c .before .before .args .d)) {i = c .before .loop .k} (omega arith)) at (c .before .loop .inv .0)
 

@@ -1,3 +1,4 @@
+-- `text::card::put_card` meets its contract. Assumes nothing.
 use native.Mathlib.Omega.{arith}
 use mathlib.Core.Path.{_≡_, refl, sym, ap, _∙_}
 use mathlib.Core.Bool.{true, false}
@@ -14,43 +15,33 @@ use Rattle.text.proofs.card.put_card.Statement.{statement}
 use Rattle.text.proofs.card.put_card.Tie as tie
 use Rattle.text.specs.CardTexts.{parts-length, parts-put}
 
--- src/lib.rt:886:22
 slice-aggregate-put-form : tie.Need-slice-aggregate-put-form
 slice-aggregate-put-form c = search needs
 
--- src/lib.rt:886:9
 put-form-requires : tie.Need-put-form-requires
 put-form-requires c κs = (omega arith, omega (arith, parts-length (now (c .before .before .before .args .h)) (c .before .before .before .args .m) (now (c .before .before .before .args .ds)) (c .before .before .before .args .n) (now (c .before .before .before .args .soil)), c .before .before .before .pre .5))
 
--- src/lib.rt:887:22
 slice-aggregate-put-many : tie.Need-slice-aggregate-put-many
 slice-aggregate-put-many c = search needs
 
--- src/lib.rt:887:9
 put-many-requires : tie.Need-put-many-requires
 put-many-requires c κs = (refl, omega (arith, c .before .before .before .before .before .before .before .before .pre .1, c .before .before .before .before .before .before .before .before .pre .2), omega (arith, parts-length (now (c .before .before .before .before .before .before .before .before .args .h)) (c .before .before .before .before .before .before .before .before .args .m) (now (c .before .before .before .before .before .before .before .before .args .ds)) (c .before .before .before .before .before .before .before .before .args .n) (now (c .before .before .before .before .before .before .before .before .args .soil)), c .before .before .before .before .before .before .before .before .pre .5, c .before .before .before .before .put-form .ensures .0, c .before .before .before .before .put-form .kept .1 .1 .1 .0))
 
--- src/lib.rt:888:5
 slice-write-buf : tie.Need-slice-write-buf
 slice-write-buf c = omega (arith, parts-length (now (c .before .before .before .before .before .before .before .before .before .before .before .args .h)) (c .before .before .before .before .before .before .before .before .before .before .before .args .m) (now (c .before .before .before .before .before .before .before .before .before .before .before .args .ds)) (c .before .before .before .before .before .before .before .before .before .before .before .args .n) (now (c .before .before .before .before .before .before .before .before .before .before .before .args .soil)), c .before .before .before .before .before .before .before .before .before .before .before .pre .5, c .before .before .before .before .before .before .before .put-form .ensures .0, c .before .before .before .before .before .before .before .put-form .kept .1 .1 .1 .0, c .before .before .put-many .ensures .0, c .before .before .put-many .kept .1 .1 .1 .1 .1 .0)
 
--- src/lib.rt:889:14
 slice-aggregate-put-many-2 : tie.Need-slice-aggregate-put-many-2
 slice-aggregate-put-many-2 c = search needs
 
--- src/lib.rt:889:41
 add-put-many : tie.Need-add-put-many
 add-put-many c = omega (arith, parts-length (now (c .before .before .before .before .before .before .before .before .before .before .before .before .before .args .h)) (c .before .before .before .before .before .before .before .before .before .before .before .before .before .args .m) (now (c .before .before .before .before .before .before .before .before .before .before .before .before .before .args .ds)) (c .before .before .before .before .before .before .before .before .before .before .before .before .before .args .n) (now (c .before .before .before .before .before .before .before .before .before .before .before .before .before .args .soil)), c .before .before .before .before .before .before .before .before .before .before .before .before .before .pre .5, c .before .before .before .before .before .before .before .before .before .put-form .ensures .0, c .before .before .before .before .put-many .ensures .0)
 
--- src/lib.rt:889:5
 put-many-requires-2 : tie.Need-put-many-requires-2
 put-many-requires-2 c κs = (refl, omega (arith, c .before .before .before .before .before .before .before .before .before .before .before .before .before .pre .4), simp length-set (omega (arith, parts-length (now (c .before .before .before .before .before .before .before .before .before .before .before .before .before .args .h)) (c .before .before .before .before .before .before .before .before .before .before .before .before .before .args .m) (now (c .before .before .before .before .before .before .before .before .before .before .before .before .before .args .ds)) (c .before .before .before .before .before .before .before .before .before .before .before .before .before .args .n) (now (c .before .before .before .before .before .before .before .before .before .before .before .before .before .args .soil)), c .before .before .before .before .before .before .before .before .before .before .before .before .before .pre .5, c .before .before .before .before .before .before .before .before .before .put-form .ensures .0, c .before .before .before .before .before .before .before .before .before .put-form .kept .1 .1 .1 .0, c .before .before .before .before .put-many .ensures .0, c .before .before .before .before .put-many .kept .1 .1 .1 .1 .1 .0)))
 
--- src/lib.rt:881:1
 same-length : tie.Need-same-length
 same-length c = c .before .before .put-many2 .kept .1 .1 .1 .1 .1 .0 ∙ simp length-set (c .before .before .before .before .before .before .before .put-many .kept .1 .1 .1 .1 .1 .0 ∙ c .before .before .before .before .before .before .before .before .before .before .before .before .put-form .kept .1 .1 .1 .0)
 
--- src/lib.rt:881:1
 returns : tie.Need-returns
 returns c = parts-put (now (c .before .before .before .before .before .before .before .before .before .before .before .before .before .before .before .before .args .h)) (c .before .before .before .before .before .before .before .before .before .before .before .before .before .before .before .before .args .m) (now (c .before .before .before .before .before .before .before .before .before .before .before .before .before .before .before .before .args .ds)) (c .before .before .before .before .before .before .before .before .before .before .before .before .before .before .before .before .args .n) (now (c .before .before .before .before .before .before .before .before .before .before .before .before .before .before .before .before .args .soil)) (now (c .before .before .before .before .before .before .before .before .before .before .before .before .before .before .before .before .args .buf)) _ _ _ _ _ (c .before .before .before .before .before .before .before .before .before .before .before .before .put-form .ensures .1) (c .before .before .before .before .before .before .before .before .before .before .before .before .put-form .ensures .0) (c .before .before .before .before .before .before .before .put-many .ensures .1) (c .before .before .before .before .before .before .before .put-many .ensures .0) (c .before .before .put-many2 .ensures .1)
 

@@ -1,24 +1,21 @@
+-- `text::card::range_counts` meets its contract. Assumes nothing.
 use borrow.Author.Tests.{le-ltb, lt-ltb}
 use Rattle.text.proofs.card.range_counts.Statement.{statement}
 use Rattle.text.proofs.card.range_counts.Tie as tie
 use Rattle.text.specs.Cards.{rangeCounts}
 
--- src/lib.rt:594:9
 returns : tie.Need-returns
 unfolding rangeCounts
 returns c = rw (lt-ltb _ _ (c .if1 .taken))
 
--- src/lib.rt:597:9
 returns-2 : tie.Need-returns-2
 unfolding rangeCounts
 returns-2 c = rw (le-ltb _ _ (c .before .if1 .left), lt-ltb _ _ (c .if2 .taken))
 
--- src/lib.rt:600:9
 returns-3 : tie.Need-returns-3
 unfolding rangeCounts
 returns-3 c = rw (le-ltb _ _ (c .before .before .if1 .left), le-ltb _ _ (c .before .if2 .left), lt-ltb _ _ (c .if3 .taken))
 
--- src/lib.rt:584:1
 returns-4 : tie.Need-returns-4
 unfolding rangeCounts
 returns-4 c = rw (le-ltb _ _ (c .before .before .if1 .left), le-ltb _ _ (c .before .if2 .left), le-ltb _ _ (c .if3 .left))

@@ -1,3 +1,4 @@
+-- `text::card::read` meets its contract. Assumes nothing.
 use native.Mathlib.Omega.{arith}
 use mathlib.Core.Path.{_≡_, refl, sym, ap, _∙_}
 use denote.Ref.{now}
@@ -8,103 +9,78 @@ use Rattle.text.specs.Cards.{refusedCard}
 use Rattle.form.specs.RunLaws.{ran-good}
 use Rattle.text.specs.CardLaws.{head-range, end-head, end-depths, end-soil, end-short, end-good}
 
--- src/lib.rt:693:9
 card-counts-requires : tie.Need-card-counts-requires
 card-counts-requires c κs = search needs
 
--- src/lib.rt:697:40
 cast-card-depths : tie.Need-cast-card-depths
 cast-card-depths c = search needs
 
--- src/lib.rt:697:59
 slice-aggregate-card-depths : tie.Need-slice-aggregate-card-depths
 slice-aggregate-card-depths c = search needs
 
--- src/lib.rt:697:13
 card-depths-requires : tie.Need-card-depths-requires
 card-depths-requires c κs = head-range _ _ (c .before .before .before .card-counts .ensures) .0
 
--- src/lib.rt:700:21
 cast-n : tie.Need-cast-n
 cast-n c = search needs
 
--- src/lib.rt:702:42
 slice-aggregate-read-many : tie.Need-slice-aggregate-read-many
 slice-aggregate-read-many c = search needs
 
--- src/lib.rt:702:55
 slice-aggregate-read-many-2 : tie.Need-slice-aggregate-read-many-2
 slice-aggregate-read-many-2 c = search needs
 
--- src/lib.rt:702:17
 read-many-requires : tie.Need-read-many-requires
 read-many-requires c κs = (refl, omega (arith, head-range _ _ (c .before .before .before .before .before .before .before .before .before .card-counts .ensures) .1))
 
--- src/lib.rt:705:33
 mul-if4 : tie.Need-mul-if4
 mul-if4 c = search needs
 
--- src/lib.rt:706:21
 refuse-requires : tie.Need-refuse-requires
 refuse-requires c κs = search needs
 
--- src/lib.rt:706:21
 returns : tie.Need-returns
 returns c = end-short (now (c .before .before .before .before .before .before .before .before .before .before .before .before .before .before .before .before .args .s)) (now (c .before .before .before .before .before .before .before .before .before .before .before .before .before .before .before .before .args .soil)) _ (c .before .before .before .before .before .before .before .before .before .before .before .before .before .before .card-counts .ensures) _ _ (c .before .before .before .before .before .before .before .before .before .before .card-depths .ensures .0) (c .before .before .before .before .before .before .before .before .before .before .before .before .before .if1 .taken) _ (c .before .before .before .before .read-many .ensures .0) (c .before .before .before .before .before .before .before .before .if2 .taken) (c .before .before .if3 .taken) (c .before .if4 .taken) (c .refuse .ensures)
 
--- src/lib.rt:708:29
 slice-aggregate-copy-values : tie.Need-slice-aggregate-copy-values
 slice-aggregate-copy-values c = search needs
 
--- src/lib.rt:708:33
 mul-copy-values : tie.Need-mul-copy-values
 mul-copy-values c = search needs
 
--- src/lib.rt:708:17
 copy-values-requires : tie.Need-copy-values-requires
 copy-values-requires c κs = (omega (arith, c .before .before .before .before .before .read-many .kept .1 .1 .1 .1 .1 .0, head-range _ _ (c .before .before .before .before .before .before .before .before .before .before .before .before .before .before .before .card-counts .ensures) .1), omega arith)
 
--- src/lib.rt:709:40
 slice-aggregate-to-depths : tie.Need-slice-aggregate-to-depths
 slice-aggregate-to-depths c = search needs
 
--- src/lib.rt:709:21
 to-depths-requires : tie.Need-to-depths-requires
 to-depths-requires c κs = search needs
 
--- src/lib.rt:710:17
 same-length : tie.Need-same-length
 same-length c = search needs
 
--- src/lib.rt:710:17
 returns-2 : tie.Need-returns-2
 returns-2 c = end-good (now (c .before .before .before .before .before .before .before .before .before .before .before .before .before .before .before .before .before .before .before .before .before .args .s)) (now (c .before .before .before .before .before .before .before .before .before .before .before .before .before .before .before .before .before .before .before .before .before .args .soil)) _ (c .before .before .before .before .before .before .before .before .before .before .before .before .before .before .before .before .before .before .before .card-counts .ensures) (refusedCard 0 0) _ (c .before .before .before .before .before .before .before .before .before .before .before .before .before .before .before .card-depths .ensures .0) (c .before .before .before .before .before .before .before .before .before .before .before .before .before .before .before .before .before .before .if1 .taken) _ (c .before .before .before .before .before .before .before .before .before .read-many .ensures .0) (c .before .before .before .before .before .before .before .before .before .before .before .before .before .if2 .taken) _ _ _ _ _ (c .before .before .before .before .before .before .before .if3 .taken) (c .before .before .before .before .before .before .if4 .left) (c .before .before .before .before .before .before .before .before .before .before .before .before .before .before .before .card-depths .ensures .1) (c .before .before .before .before .before .before .before .before .before .read-many .ensures .1) refl (head-range _ _ (c .before .before .before .before .before .before .before .before .before .before .before .before .before .before .before .before .before .before .before .card-counts .ensures) .1) (c .to-depths .ensures) (c .before .before .before .copy-values .ensures)
 
--- src/lib.rt:721:31
 add-refuse : tie.Need-add-refuse
 add-refuse c = let g = ran-good _ _ _ _ _ (c .before .before .before .read-many .ensures .0) in omega (arith, head-range _ _ (c .before .before .before .before .before .before .before .before .before .before .before .before .before .card-counts .ensures) .1)
 
--- src/lib.rt:721:13
 refuse-requires-2 : tie.Need-refuse-requires-2
 refuse-requires-2 c κs = search needs
 
--- src/lib.rt:721:13
 returns-3 : tie.Need-returns-3
 returns-3 c = end-soil (now (c .before .before .before .before .before .before .before .before .before .before .before .before .before .before .before .before .args .s)) (now (c .before .before .before .before .before .before .before .before .before .before .before .before .before .before .before .before .args .soil)) _ (c .before .before .before .before .before .before .before .before .before .before .before .before .before .before .card-counts .ensures) _ _ (c .before .before .before .before .before .before .before .before .before .before .card-depths .ensures .0) (c .before .before .before .before .before .before .before .before .before .before .before .before .before .if1 .taken) _ (c .before .before .before .before .read-many .ensures .0) (c .before .before .before .before .before .before .before .before .if2 .taken) (c .before .before .if3 .left) (c .refuse2 .ensures)
 
--- src/lib.rt:723:9
 refuse-requires-3 : tie.Need-refuse-requires-3
 refuse-requires-3 c κs = search needs
 
--- src/lib.rt:723:9
 returns-4 : tie.Need-returns-4
 returns-4 c = end-depths (now (c .before .before .before .before .before .before .before .before .before .args .s)) (now (c .before .before .before .before .before .before .before .before .before .args .soil)) _ (c .before .before .before .before .before .before .before .card-counts .ensures) _ _ (c .before .before .before .card-depths .ensures .0) (c .before .before .before .before .before .before .if1 .taken) (c .before .if2 .left) (c .refuse3 .ensures)
 
--- src/lib.rt:725:5
 refuse-requires-4 : tie.Need-refuse-requires-4
 refuse-requires-4 c κs = search needs
 
--- src/lib.rt:689:1
 returns-5 : tie.Need-returns-5
 returns-5 c = end-head (now (c .before .before .before .before .args .s)) (now (c .before .before .before .before .args .soil)) _ (c .before .before .card-counts .ensures) _ (c .before .if1 .left) (c .refuse4 .ensures)
 

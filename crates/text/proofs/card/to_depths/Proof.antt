@@ -1,3 +1,4 @@
+-- `text::card::to_depths` meets its contract. Assumes nothing.
 use native.Mathlib.Omega.{arith}
 use borrow.Author.Needs.{needs}
 use mathlib.Core.Path.{_≡_, refl, sym, ap, _∙_}
@@ -18,35 +19,27 @@ Inv-loop v d₀ k₀ d k = (sets d k (map wordOf (drop k v)) ≡ map wordOf v) �
 abbrev μ-loop : tie.MeasureT-loop
 μ-loop v d₀ k₀ d k = 30 - k
 
--- src/lib.rt:654:5
 loop-holds : tie.Need-loop-holds Inv-loop μ-loop
 loop-holds c = (sets-all _ (map wordOf (now (c .args .v))) (length-map (now (c .args .v)) wordOf ∙ c .pre), refl, omega arith)
 
--- src/lib.rt:655:16
 word-at-requires : tie.Need-word-at-requires Inv-loop μ-loop
 word-at-requires c κs = search needs
 
--- src/lib.rt:655:9
 mul-d : tie.Need-mul-d Inv-loop μ-loop
 mul-d c = search needs
 
--- src/lib.rt:655:9
 array-write-d : tie.Need-array-write-d Inv-loop μ-loop
 array-write-d c = search needs
 
--- src/lib.rt:656:9
 add-k : tie.Need-add-k Inv-loop μ-loop
 add-k c = search needs
 
--- src/lib.rt:654:5
 loop-less : tie.Need-loop-less Inv-loop μ-loop
 loop-less c = search needs
 
--- src/lib.rt:654:5
 loop-again : tie.Need-loop-again Inv-loop μ-loop
 loop-again c = (sym (words-turn (c .before .before .loop .d) (now (c .before .before .before .args .v)) (c .before .before .loop .k) (c .word-at .result) (omega arith) (c .word-at .ensures)) ∙ c .before .before .loop .inv .0, simp length-set (c .before .before .loop .inv .1), omega arith)
 
--- src/lib.rt:648:1
 returns : tie.Need-returns Inv-loop μ-loop
 returns c = rw (drop-of-length-le (now (c .before .before .args .v)) {i = c .before .loop .k} (omega arith)) at (c .before .loop .inv .0)
 

@@ -1,3 +1,4 @@
+-- `text::card::write` meets its contract. Assumes nothing.
 use native.Mathlib.Omega.{arith}
 use mathlib.Core.Path.{_≡_, refl, sym, ap, _∙_}
 use mathlib.Core.Bool.{true, false}
@@ -16,87 +17,66 @@ use Rattle.text.specs.CardTexts.{given-range, wrote-none, wrote-long, wr
 long : (c : tie.After-d2) → length (c .before .before .before .before .before .before .before .before .before .before .before .before .args .card .depths) ≡ 30
 long c = search needs
 
--- src/lib.rt:897:8
 card-given-requires : tie.Need-card-given-requires
 card-given-requires c κs = search needs
 
--- src/lib.rt:898:17
 cast-n : tie.Need-cast-n
 cast-n c = search needs
 
--- src/lib.rt:899:26
 mul-if2 : tie.Need-mul-if2
 mul-if2 c = search needs
 
--- src/lib.rt:900:25
 slice-aggregate-rows-fit : tie.Need-slice-aggregate-rows-fit
 slice-aggregate-rows-fit c = search needs
 
--- src/lib.rt:900:16
 rows-fit-requires : tie.Need-rows-fit-requires
 rows-fit-requires c κs = search needs
 
--- src/lib.rt:901:25
 cast-m : tie.Need-cast-m
 cast-m c = search needs
 
--- src/lib.rt:903:25
 count-values-requires : tie.Need-count-values-requires
 count-values-requires c κs = search needs
 
--- src/lib.rt:904:39
 slice-aggregate-depth-values : tie.Need-slice-aggregate-depth-values
 slice-aggregate-depth-values c = search needs
 
--- src/lib.rt:904:26
 depth-values-requires : tie.Need-depth-values-requires
 depth-values-requires c κs = search needs
 
--- src/lib.rt:905:36
 slice-aggregate-card-len : tie.Need-slice-aggregate-card-len
 slice-aggregate-card-len c = search needs
 
--- src/lib.rt:905:43
 slice-aggregate-card-len-2 : tie.Need-slice-aggregate-card-len-2
 slice-aggregate-card-len-2 c = search needs
 
--- src/lib.rt:905:21
 card-len-requires : tie.Need-card-len-requires
 card-len-requires c κs = (search needs, given-range (c .before .before .before .before .before .before .before .before .before .before .before .before .before .before .before .args .card) (sym (c .before .before .before .before .before .before .before .before .before .before .before .before .before .card-given .ensures) ∙ c .before .before .before .before .before .before .before .before .before .before .before .before .if1 .taken) .1, search needs, given-range (c .before .before .before .before .before .before .before .before .before .before .before .before .before .before .before .args .card) (sym (c .before .before .before .before .before .before .before .before .before .before .before .before .before .card-given .ensures) ∙ c .before .before .before .before .before .before .before .before .before .before .before .before .if1 .taken) .0, c .before .before .before .before .before .before .before .before .before .before .if2 .taken)
 
--- src/lib.rt:907:21
 returns : tie.Need-returns
 returns c = let L : length (c .before .before .before .before .before .before .before .before .before .before .before .before .before .before .before .before .before .args .card .depths) ≡ 30 = search needs in wrote-short (c .before .before .before .before .before .before .before .before .before .before .before .before .before .before .before .before .before .args .card) (now (c .before .before .before .before .before .before .before .before .before .before .before .before .before .before .before .before .before .args .soil)) (now (c .before .before .before .before .before .before .before .before .before .before .before .before .before .before .before .before .before .args .buf)) (sym (c .before .before .before .before .before .before .before .before .before .before .before .before .before .before .before .card-given .ensures) ∙ c .before .before .before .before .before .before .before .before .before .before .before .before .before .before .if1 .taken) (c .before .before .before .before .before .before .before .before .before .before .before .before .if2 .taken) (sym (c .before .before .before .before .before .before .before .before .before .before .rows-fit .ensures) ∙ c .before .before .before .before .before .before .before .before .before .if3 .taken) (omega (arith, given-range (c .before .before .before .before .before .before .before .before .before .before .before .before .before .before .before .before .before .args .card) (sym (c .before .before .before .before .before .before .before .before .before .before .before .before .before .before .before .card-given .ensures) ∙ c .before .before .before .before .before .before .before .before .before .before .before .before .before .before .if1 .taken) .1)) _ (rw (c .before .before .before .before .before .before .count-values .ensures, c .before .before .before .before .depth-values .ensures) at (c .before .card-len .ensures)) (c .if4 .taken)
 
--- src/lib.rt:909:26
 slice-aggregate-put-card : tie.Need-slice-aggregate-put-card
 slice-aggregate-put-card c = search needs
 
--- src/lib.rt:909:33
 slice-aggregate-put-card-2 : tie.Need-slice-aggregate-put-card-2
 slice-aggregate-put-card-2 c = search needs
 
--- src/lib.rt:909:17
 put-card-requires : tie.Need-put-card-requires
 put-card-requires c κs = (search needs, given-range (c .before .before .before .before .before .before .before .before .before .before .before .before .before .before .before .before .before .before .before .before .args .card) (sym (c .before .before .before .before .before .before .before .before .before .before .before .before .before .before .before .before .before .before .card-given .ensures) ∙ c .before .before .before .before .before .before .before .before .before .before .before .before .before .before .before .before .before .if1 .taken) .1, search needs, given-range (c .before .before .before .before .before .before .before .before .before .before .before .before .before .before .before .before .before .before .before .before .args .card) (sym (c .before .before .before .before .before .before .before .before .before .before .before .before .before .before .before .before .before .before .card-given .ensures) ∙ c .before .before .before .before .before .before .before .before .before .before .before .before .before .before .before .before .before .if1 .taken) .0, c .before .before .before .before .before .before .before .before .before .before .before .before .before .before .before .if2 .taken, omega (arith, c .before .before .before .before .card-len .ensures, c .before .before .before .if4 .left))
 
--- src/lib.rt:910:17
 same-length : tie.Need-same-length
 same-length c = search needs
 
--- src/lib.rt:910:17
 returns-2 : tie.Need-returns-2
 returns-2 c = let L = long (c .before .before .before .before .before .before .before .before .before .before .before) in wrote-all (c .before .before .before .before .before .before .before .before .before .before .before .before .before .before .before .before .before .before .before .before .before .before .before .args .card) (now (c .before .before .before .before .before .before .before .before .before .before .before .before .before .before .before .before .before .before .before .before .before .before .before .args .soil)) (now (c .before .before .before .before .before .before .before .before .before .before .before .before .before .before .before .before .before .before .before .before .before .before .before .args .buf)) (sym (c .before .before .before .before .before .before .before .before .before .before .before .before .before .before .before .before .before .before .before .before .before .card-given .ensures) ∙ c .before .before .before .before .before .before .before .before .before .before .before .before .before .before .before .before .before .before .before .before .if1 .taken) (c .before .before .before .before .before .before .before .before .before .before .before .before .before .before .before .before .before .before .if2 .taken) (sym (c .before .before .before .before .before .before .before .before .before .before .before .before .before .before .before .before .rows-fit .ensures) ∙ c .before .before .before .before .before .before .before .before .before .before .before .before .before .before .before .if3 .taken) (omega (arith, given-range (c .before .before .before .before .before .before .before .before .before .before .before .before .before .before .before .before .before .before .before .before .before .before .before .args .card) (sym (c .before .before .before .before .before .before .before .before .before .before .before .before .before .before .before .before .before .before .before .before .before .card-given .ensures) ∙ c .before .before .before .before .before .before .before .before .before .before .before .before .before .before .before .before .before .before .before .before .if1 .taken) .1)) _ (rw (c .before .before .before .before .before .before .before .before .before .before .before .before .count-values .ensures, c .before .before .before .before .before .before .before .before .before .before .depth-values .ensures) at (c .before .before .before .before .before .before .before .card-len .ensures)) _ (c .before .before .before .before .before .before .if4 .left) (rw (c .before .before .before .before .before .before .before .before .before .before .before .before .count-values .ensures, c .before .before .before .before .before .before .before .before .before .before .depth-values .ensures) at (c .before .before .put-card .ensures))
 
--- src/lib.rt:912:13
 returns-3 : tie.Need-returns-3
 returns-3 c = wrote-odd (c .before .before .before .before .before .before .before .before .args .card) (now (c .before .before .before .before .before .before .before .before .args .soil)) (now (c .before .before .before .before .before .before .before .before .args .buf)) (sym (c .before .before .before .before .before .before .card-given .ensures) ∙ c .before .before .before .before .before .if1 .taken) (c .before .before .before .if2 .taken) (sym (c .before .rows-fit .ensures) ∙ c .if3 .left)
 
--- src/lib.rt:914:9
 returns-4 : tie.Need-returns-4
 returns-4 c = wrote-long (c .before .before .before .before .before .args .card) (now (c .before .before .before .before .before .args .soil)) (now (c .before .before .before .before .before .args .buf)) (sym (c .before .before .before .card-given .ensures) ∙ c .before .before .if1 .taken) (c .if2 .left)
 
--- src/lib.rt:894:1
 returns-5 : tie.Need-returns-5
 returns-5 c = wrote-none (c .before .before .before .args .card) (now (c .before .before .before .args .soil)) (now (c .before .before .before .args .buf)) (sym (c .before .card-given .ensures) ∙ c .if1 .left)
 

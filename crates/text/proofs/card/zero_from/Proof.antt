@@ -1,3 +1,4 @@
+-- `text::card::zero_from` meets its contract. Assumes nothing.
 use native.Mathlib.Omega.{arith}
 use borrow.Author.Needs.{needs}
 use mathlib.Core.Path.{_≡_, refl, sym, ap, _∙_}
@@ -20,35 +21,27 @@ Inv-loop d from k₀ k = allZero (drop from d) ≡ allZero (drop k d)
 abbrev μ-loop : tie.MeasureT-loop
 μ-loop d from k₀ k = length d - k
 
--- src/lib.rt:822:5
 loop-holds : tie.Need-loop-holds Inv-loop μ-loop
 loop-holds c = refl
 
--- src/lib.rt:823:12
 mul-if1 : tie.Need-mul-if1 Inv-loop μ-loop
 mul-if1 c = search needs
 
--- src/lib.rt:823:12
 shared-slice-read-if1 : tie.Need-shared-slice-read-if1 Inv-loop μ-loop
 shared-slice-read-if1 c = search needs
 
--- src/lib.rt:824:13
 add-k : tie.Need-add-k Inv-loop μ-loop
 add-k c = search needs
 
--- src/lib.rt:822:5
 loop-less : tie.Need-loop-less Inv-loop μ-loop
 loop-less c = search needs
 
--- src/lib.rt:822:5
 loop-again : tie.Need-loop-again Inv-loop μ-loop
 loop-again c = c .before .before .before .loop .inv ∙ zero-yes (now (c .before .before .before .before .args .d)) (c .before .before .before .loop .k) (c .before .before .loop-test .taken) (c .if1 .taken)
 
--- src/lib.rt:826:13
 returns : tie.Need-returns Inv-loop μ-loop
 returns c = sym (c .before .before .before .loop .inv ∙ zero-no (now (c .before .before .before .before .args .d)) (c .before .before .before .loop .k) (c .before .before .loop-test .taken) (c .if1 .left))
 
--- src/lib.rt:818:1
 returns-2 : tie.Need-returns-2 Inv-loop μ-loop
 returns-2 c = sym (c .before .loop .inv ∙ zero-end (now (c .before .before .args .d)) (c .before .loop .k) (c .loop-test .left))
 

@@ -10,13 +10,6 @@ use Rattle.text.specs.Printed.{answerVals, answerText, amountsPrintable,
 use borrow.Author.Needs.{needs}
 use Rattle.text.proofs.print.answer.Statement.{statement}
 use Rattle.text.proofs.print.answer.Tie as tie
-use Rattle.text.proofs.print.answer.Reads as reads
-use Rattle.text.proofs.print.answer.Lts as lts
-use Rattle.cell.proofs.amounts_of.Reads as amounts-of-reads
-use Rattle.cell.proofs.number_of.Reads as number-of-reads
-use Rattle.text.proofs.print.amounts_printable.Reads as amounts-printable-reads
-use Rattle.text.proofs.print.answer_values.Reads as answer-values-reads
-use Rattle.text.proofs.put_line.Reads as put-line-reads
 
 amounts-of-requires : tie.Need-amounts-of-requires
 amounts-of-requires c κs = search needs

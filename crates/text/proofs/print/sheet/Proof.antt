@@ -6,11 +6,6 @@ use Rattle.text.specs.Printed.{sheetText, sheetPrintable, Prints}
 use borrow.Author.Needs.{needs}
 use Rattle.text.proofs.print.sheet.Statement.{statement}
 use Rattle.text.proofs.print.sheet.Tie as tie
-use Rattle.text.proofs.print.sheet.Reads as reads
-use Rattle.text.proofs.print.sheet.Lts as lts
-use Rattle.text.proofs.print.sheet_printable.Reads as sheet-printable-reads
-use Rattle.text.proofs.print.sheet_values.Reads as sheet-values-reads
-use Rattle.text.proofs.put_line.Reads as put-line-reads
 
 sheet-printable-requires : tie.Need-sheet-printable-requires
 sheet-printable-requires c κs = search needs
