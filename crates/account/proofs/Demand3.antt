@@ -6,9 +6,7 @@ use mathlib.Core.List.{List, [], _∷_}
 use Prim.Native.Nat.{ℕ, zero, suc, _-_, _≤_, _<_, min}
 use native.Mathlib.Omega.{arith}
 use lib.IntN.{ℤ, pos}
-use native.Mathlib.Decide.{decLe}
-use lib.ListN.{length, getD, take, replicate, length-replicate}
-use lib.Seq.{take-all}
+use lib.ListN.{length, getD, replicate}
 use Rattle.head.specs.Class.{classOf}
 use Rattle.cell.specs.declared.Answer.{Answer}
 use Rattle.cell.specs.declared.Answer.the-variants.{Accepted}
@@ -17,12 +15,12 @@ use Rattle.cell.specs.declared.Depth.{Depth}
 use Rattle.cell.specs.declared.Reading.{Reading}
 use Rattle.cell.specs.declared.checks.Verdict.the-variants.{Fine}
 use Rattle.cell.specs.Ranges.{cardOk, soilOk, soilOf, rowOk, fieldsOk, lifeOf, nextOf, queueOf}
+use Rattle.cell.specs.RangeLaws.{cleared-queue}
 use Rattle.cell.specs.Refusals.{sounded}
 use Rattle.cell.specs.CheckLaws.{Passed, InOrder, order-old, order-gap}
 use Rattle.cell.specs.Step.{stepAmounts}
 use Rattle.cell.specs.AnswerLaws.{lets-through}
 use Rattle.site.specs.Rows.{partAt}
-use Rattle.site.specs.RowsLaws.{first-zeros}
 use Rattle.site.specs.Site.{soilWidth, rowWidth, soilFits, rowsFit, cellFits, siteAnswer, clearNumber, clearRows}
 use Rattle.site.specs.SiteLaws.{reached, cleared-part}
 use Rattle.account.specs.Ledger.{History, Kept, countsOf, downFrom}
@@ -42,22 +40,10 @@ module _ (card : Card) (p : ℕ) (rows : List ℕ) (cs : List Call) where
   abbrev pub queueAfterAll : List ℕ
   queueAfterAll = queueOf (card .delays) (rowOf p rowsAfter)
 
--- a cleared row has a cleared queue
-short : ℕ → ℕ
-short m = min m 30
-
-cleared-queue : (m : ℕ) → queueOf m (replicate rowWidth 0) ≡ replicate (short m) 0
-unfolding short
-cleared-queue m = go (decLe m 30)
-  where
-    go : Dec (m ≤ 30) → _≡_ {A = List ℕ} (take m (replicate 30 0)) (replicate (min m 30) 0)
-    go (yes h) = let e : min m 30 ≡ m = omega arith in rw e (first-zeros m 30 h)
-    go (no h) = let e : min m 30 ≡ 30 = omega arith in rw e (take-all m (replicate 30 0) (omega (arith, length-replicate {A = ℕ} 30 0)))
-
 -- once a group's due step has come, all that went into it was drawn by plants or released at that step, none at another, and none waits; a group ahead stands in its slot;
 -- a step's draws over all groups are its etstor; and inflow = runoff + plant use + drainage + net recharge + waiting
 pub demand3 : (card : Card) (p : ℕ) (rows : List ℕ) → rowOf p rows ≡ replicate rowWidth 0 → (cs : List Call) → Kept (historyOf card p rows cs) (queueAfterAll card p rows cs)
-demand3 card p rows e cs = over-any-run (plotOf card p) (rules card p) (short (card .delays)) rows (ap (queueOf (card .delays)) e ∙ cleared-queue (card .delays)) cs
+demand3 card p rows e cs = over-any-run (plotOf card p) (rules card p) (min (card .delays) 30) rows (ap (queueOf (card .delays)) e ∙ cleared-queue (card .delays)) cs
 
 -- the same from rows that `site::clear` has cleared
 pub after-clearing : (card : Card) (p : ℕ) (rows : List ℕ) → clearNumber card rows ≡ 0 → p < card .cells → (cs : List Call)

@@ -18,6 +18,7 @@ use Rattle.cell.specs.declared.Answer.the-variants.{Accepted, Refused}
 use Rattle.cell.specs.declared.Card.{Card}
 use Rattle.cell.specs.declared.Reading.{Reading}
 use Rattle.cell.specs.Ranges.{lifeOf, nextOf}
+use Rattle.cell.specs.RangeLaws.{cleared-life, cleared-next}
 use Rattle.cell.specs.CheckLaws.{InOrder}
 use Rattle.cell.specs.AnswerLaws.{was-in-order, life-after, next-after}
 use Rattle.site.specs.Rows.{partAt}
@@ -106,4 +107,4 @@ module _ (card : Card) (p : ℕ) where
   -- the counts of the accepted readings of a life are 0, 1, 2, .. , each once: latest first, n - 1, .. , 1, 0
   pub counts-run : (rows : List ℕ) → rowOf p rows ≡ replicate 32 0 → (cs : List Call) (life : ℕ)
       → countsOf life (told (plotOf card p) rows [] cs) ≡ downFrom (length (countsOf life (told (plotOf card p) rows [] cs)))
-  counts-run rows e cs life = along (plotOf card p) Fits keeps [] rows cs (rw e start) .all life
+  counts-run rows e cs life = along (plotOf card p) Fits keeps [] rows cs (rw (e, cleared-life, cleared-next) start) .all life

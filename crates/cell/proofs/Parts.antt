@@ -78,6 +78,7 @@ module _ (card : Card) (soil : Soil) (r : Reading) (d : Depth) (h : Checked card
 
 -- ---- the queue as a part of its row
 pub part-is : (m : ℕ) (row : List ℕ) → take (2 + m - 2) (drop 2 row) ≡ queueOf m row
+unfolding queueOf
 part-is m row = let e : 2 + m - 2 ≡ m = omega arith in rw e
 
 -- the row once the part is back and the two numbers before it are stored

@@ -229,6 +229,11 @@ unfolding slot
 slot-cleared m zero = refl
 slot-cleared m (suc i) = zeros m i
 
+pub first-zeros : (m n : ℕ) → m ≤ n → _≡_ {A = List ℕ} (take m (replicate n 0)) (replicate m 0)
+first-zeros zero n h = refl
+first-zeros (suc m) zero h = absurd (not-suc-le-zero h)
+first-zeros (suc m) (suc n) h = ap (λ (t : List ℕ). 0 ∷ t) (first-zeros m n (le-of-suc-le-suc h))
+
 pub total-cleared : (m : ℕ) → total (replicate m 0) ≡ 0
 unfolding total
 total-cleared zero = refl

@@ -2,18 +2,20 @@
 use mathlib.Core.Path.{_≡_, refl}
 use mathlib.Core.Bool.{Bool, true, false, _&&_, and-eq-true-iff}
 use mathlib.Core.List.{List, [], _∷_}
-use Prim.Native.Nat.{ℕ, suc, _≤_, suc-le-suc, zero-le}
+use Prim.Native.Nat.{ℕ, suc, _≤_, suc-le-suc, zero-le, min}
 use borrow.Author.Tests.{leb-true, eqb-true, le-leb, eq-eqb}
 use lib.Dec.{leb, eqb}
 use lib.IntN.{ℤ, pos, negsuc, natAbs}
 use lib.Signed.{leZ}
-use lib.ListN.{length, getD}
+use lib.ListN.{length, getD, take, replicate, length-replicate}
+use lib.Seq.{take-all}
+use native.Mathlib.Decide.{decLe}
 use native.Mathlib.Omega.{arith}
 use Rattle.cell.specs.declared.Card.{Card}
 use Rattle.cell.specs.declared.Reading.{Reading}
-use Rattle.cell.specs.Ranges.{cardOk, depthsOk, within, soilOk, soilOf, lifeOf, nextOf, slotsOf, slotsOk, rowOk, fieldsOk}
+use Rattle.cell.specs.Ranges.{cardOk, depthsOk, within, soilOk, soilOf, lifeOf, nextOf, slotsOf, queueOf, slotsOk, rowOk, fieldsOk}
 use Rattle.cell.specs.Conj.{told}
-use Rattle.cell.specs.QueueLaws.{SlotsIn, slots-in, slots-ok}
+use Rattle.cell.specs.QueueLaws.{SlotsIn, slots-in, slots-ok, first-zeros}
 
 -- ---- the card
 pub record CardIn (card : Card) : Type 0 where
@@ -106,6 +108,23 @@ row-in m row e =
 pub row-ok : (m : ℕ) (row : List ℕ) → RowIn m row → rowOk m row ≡ true
 unfolding rowOk
 row-ok m row h = simp (eq-eqb _ _ (h .long), le-leb _ _ (h .life), le-leb _ _ (h .next), slots-ok m (slotsOf row) (h .slots))
+
+-- ---- a cleared row: life 0, next count 0, and a cleared queue
+pub cleared-life : lifeOf (replicate 32 0) ≡ 0
+unfolding lifeOf
+cleared-life = refl
+
+pub cleared-next : nextOf (replicate 32 0) ≡ 0
+unfolding nextOf
+cleared-next = refl
+
+pub cleared-queue : (m : ℕ) → queueOf m (replicate 32 0) ≡ replicate (min m 30) 0
+unfolding queueOf
+cleared-queue m = go (decLe m 30)
+  where
+    go : Dec (m ≤ 30) → _≡_ {A = List ℕ} (take m (replicate 30 0)) (replicate (min m 30) 0)
+    go (yes h) = let e : min m 30 ≡ m = omega arith in rw e (first-zeros m 30 h)
+    go (no h) = let e : min m 30 ≡ 30 = omega arith in rw e (take-all m (replicate 30 0) (omega (arith, length-replicate {A = ℕ} 30 0)))
 
 -- ---- the reading
 pub record FieldsIn (r : Reading) : Type 0 where

@@ -48,17 +48,17 @@ soilOf s =
     }
 
 -- ---- the stored row, 32 numbers: life 0..65,535; next count 0..1,000,000; slots 1..30
-abbrev pub lifeOf : List ℕ → ℕ
+unfoldable pub lifeOf : List ℕ → ℕ
 lifeOf row = getD row 0 0
 
-abbrev pub nextOf : List ℕ → ℕ
+unfoldable pub nextOf : List ℕ → ℕ
 nextOf row = getD row 1 0
 
-abbrev pub slotsOf : List ℕ → List ℕ
+unfoldable pub slotsOf : List ℕ → List ℕ
 slotsOf row = take 30 (drop 2 row)
 
 -- the waiting queue: slots 1..M
-abbrev pub queueOf : ℕ → List ℕ → List ℕ
+unfoldable pub queueOf : ℕ → List ℕ → List ℕ
 queueOf m row = take m (drop 2 row)
 
 -- slot k is at most 2,000,000 x (M - k + 1), and 0 above M: M at the first slot, one less at each after it, down to 0

@@ -148,15 +148,18 @@ module _ (card : Card) (soil : Soil) (r : Reading) (d : Depth) (h : Checked card
     inside = row-in (card .delays) row ok
 
     slots-are : slotsOf row ≡ drop 2 row
+    unfolding slotsOf
     slots-are = take-all 30 (drop 2 row) (omega (arith, length-drop 2 row, inside .long))
 
     slots-within : SlotsIn (card .delays) (drop 2 row)
     slots-within = rw slots-are at (inside .slots)
 
     pub queue-in : SlotsIn (card .delays) (queueOf (card .delays) row)
+    unfolding queueOf
     queue-in = take-in (card .delays) (card .delays) (drop 2 row) slots-within
 
     pub queue-length : length (queueOf (card .delays) row) ≡ card .delays
+    unfolding queueOf
     queue-length = omega (arith, length-take (card .delays) (drop 2 row), length-drop 2 row, inside .long, h .delays)
 
     -- the queue in the row as the step leaves it
@@ -164,16 +167,16 @@ module _ (card : Card) (soil : Soil) (r : Reading) (d : Depth) (h : Checked card
     tail-length = after-length (queueOf (card .delays) row) ∙ queue-length
 
     pub row-queue : queueOf (card .delays) (rowAfter card soil r d row) ≡ queueAfter card soil r d (queueOf (card .delays) row)
-    unfolding rowAfter
+    unfolding rowAfter queueOf
     row-queue = take-at (queueAfter card soil r d (queueOf (card .delays) row)) (drop (card .delays) (drop 2 row)) (card .delays) tail-length
 
     -- an accepted row has the reading's life and its count + 1
     pub row-life : lifeOf (rowAfter card soil r d row) ≡ r .life
-    unfolding rowAfter
+    unfolding rowAfter lifeOf
     row-life = refl
 
     pub row-next : nextOf (rowAfter card soil r d row) ≡ r .count + 1
-    unfolding rowAfter
+    unfolding rowAfter nextOf
     row-next = refl
 
     -- a row in range stays in range
@@ -197,6 +200,7 @@ module _ (card : Card) (soil : Soil) (r : Reading) (d : Depth) (h : Checked card
         (after-in (queueOf (card .delays) row) queue-in) (drop-in (card .delays) (card .delays) (drop 2 row) slots-within)
 
     pub row-kept : rowOk (card .delays) (rowAfter card soil r d row) ≡ true
+    unfolding slotsOf
     row-kept =
         row-ok (card .delays) (rowAfter card soil r d row) (record {
           long = row-length;

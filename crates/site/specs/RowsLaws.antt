@@ -2,11 +2,12 @@
 use mathlib.Core.Path.{_≡_, refl, ap, sym, _∙_}
 use mathlib.Core.List.{List, [], _∷_, _++_}
 use Prim.Native.Nat.{ℕ, zero, suc, _+_, _-_, _*_, _≤_, _<_, min}
-use native.Mathlib.Nat.{mul-le-mul-left, le-of-suc-le-suc, not-suc-le-zero, sub-zero}
+use native.Mathlib.Nat.{mul-le-mul-left, sub-zero}
 use native.Mathlib.Omega.{arith}
 use native.Mathlib.Decide.{decLe}
 use lib.ListN.{length, getD, take, drop, replicate, take-append-drop, length-append, length-take, length-drop, List·getD-append}
 use lib.Seq.{length-take-le, take-at, drop-at, drop-drop, getD-append-add, getD-take, getD-drop, ext-getD}
+use Rattle.cell.specs.QueueLaws.{first-zeros}
 use Rattle.site.specs.Rows.{partAt, putAt}
 
 pub part-length : (w c : ℕ) (l : List ℕ) → w * c + w ≤ length l → length (partAt w c l) ≡ w
@@ -85,11 +86,6 @@ module _ (w c : ℕ) (row l : List ℕ) (len : length row ≡ w) (fits : w * c +
       outside i k (no h) = let b : suc p ≤ c = omega arith in below (w * p + i) (omega (arith, mul-le-mul-left w b))
 
 -- a part of zeros is zeros
-pub first-zeros : (m n : ℕ) → m ≤ n → _≡_ {A = List ℕ} (take m (replicate n 0)) (replicate m 0)
-first-zeros zero n h = refl
-first-zeros (suc m) zero h = absurd (not-suc-le-zero h)
-first-zeros (suc m) (suc n) h = ap (λ (t : List ℕ). 0 ∷ t) (first-zeros m n (le-of-suc-le-suc h))
-
 later-zeros : (k n : ℕ) → _≡_ {A = List ℕ} (drop k (replicate n 0)) (replicate (n - k) 0)
 later-zeros zero n = ap (λ (j : ℕ). replicate j 0) (sym (sub-zero n))
 later-zeros (suc k) zero = let e : 0 - suc k ≡ 0 = omega arith in rw e

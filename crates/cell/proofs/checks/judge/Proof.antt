@@ -75,7 +75,7 @@ is-old-requires : tie.Need-is-old-requires
 is-old-requires c κs = search needs
 
 returns-4 : tie.Need-returns-4
-unfolding unless
+unfolding unless lifeOf nextOf
 returns-4 c =
     let s = c .before .before .before .before .before .before .before .before .before .before .before .args in
     by-checks (s .card) (s .soil .now) (s .row .now) (s .r) (card-good (c .before .before .before .before .before .before .before .before)) (soil-good (c .before .before .before .before .before .before)) (row-good (c .before .before .before .before)) (sym (c .before .is-old .ensures) ∙ c .if4 .taken) refl refl
@@ -84,7 +84,7 @@ is-gap-requires : tie.Need-is-gap-requires
 is-gap-requires c κs = search needs
 
 returns-5 : tie.Need-returns-5
-unfolding unless
+unfolding unless lifeOf nextOf
 returns-5 c =
     let s = c .before .before .before .before .before .before .before .before .before .before .before .before .before .args in
     by-checks (s .card) (s .soil .now) (s .row .now) (s .r) (card-good (c .before .before .before .before .before .before .before .before .before .before)) (soil-good (c .before .before .before .before .before .before .before .before)) (row-good (c .before .before .before .before .before .before)) (sym (c .before .before .before .is-old .ensures) ∙ c .before .before .if4 .left) (sym (c .before .is-gap .ensures) ∙ c .if5 .taken) refl
@@ -93,7 +93,7 @@ fields-ok-requires : tie.Need-fields-ok-requires
 fields-ok-requires c κs = search needs
 
 returns-6 : tie.Need-returns-6
-unfolding unless
+unfolding unless lifeOf nextOf
 returns-6 c =
     let s = c .before .before .before .before .before .before .before .before .before .before .before .before .before .before .before .args in
     by-checks (s .card) (s .soil .now) (s .row .now) (s .r) (card-good (c .before .before .before .before .before .before .before .before .before .before .before .before)) (soil-good (c .before .before .before .before .before .before .before .before .before .before)) (row-good (c .before .before .before .before .before .before .before .before)) (sym (c .before .before .before .before .before .is-old .ensures) ∙ c .before .before .before .before .if4 .left) (sym (c .before .before .before .is-gap .ensures) ∙ c .before .before .if5 .left) (sym (c .before .fields-ok .ensures) ∙ not-true _ (c .if6 .taken))
@@ -110,7 +110,7 @@ sound-requires c κs =
     rw (toZ-ofZ (sfits-of (c .before .t21 .given))) (soil-in _ s .top)
 
 returns-7 : tie.Need-returns-7
-unfolding unless
+unfolding unless lifeOf nextOf
 returns-7 c =
     let s = c .before .before .before .before .before .before .before .before .before .before .before .before .before .before .before .before .before .before .args in
     rw (c .sound .ensures, toZ-ofZ (sfits-of (c .before .before .t21 .given)), c .before .classify .ensures)

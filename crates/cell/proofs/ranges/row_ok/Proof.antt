@@ -1,6 +1,6 @@
 -- `cell::ranges::row_ok` meets its contract. Assumes nothing.
 use borrow.Author.Tests.{eq-eqb, ne-eqb}
-use Rattle.cell.specs.Ranges.{rowOk}
+use Rattle.cell.specs.Ranges.{rowOk, lifeOf, nextOf, slotsOf}
 use borrow.Author.Needs.{needs}
 use Rattle.cell.proofs.ranges.row_ok.Statement.{statement}
 use Rattle.cell.proofs.ranges.row_ok.Tie as tie
@@ -28,7 +28,7 @@ shared-slice-read-result-2 : tie.Need-shared-slice-read-result-2
 shared-slice-read-result-2 c = search needs
 
 returns-2 : tie.Need-returns-2
-unfolding rowOk
+unfolding rowOk lifeOf nextOf slotsOf
 returns-2 c = rw (c .before .before .slots-ok .ensures, eq-eqb _ _ (c .before .before .before .before .if1 .left))
 
 pub row-ok-spec : {M : Type 1} → statement M
