@@ -1,10 +1,9 @@
 -- DEMAND 3. For any plot of a site, from its cleared row, after any calls of the site's step in any order, refused ones and other plots' among them. Assumes nothing.
-use mathlib.Core.Path.{_≡_, refl, ap, sym, _∙_}
+use mathlib.Core.Path.{_≡_, refl, ap, _∙_}
 use mathlib.Core.Bool.{true, _&&_}
 use mathlib.Core.Logic.{inr}
 use mathlib.Core.List.{List, [], _∷_}
-use Prim.Native.Nat.{ℕ, zero, suc, _-_, _≤_, _<_, min}
-use native.Mathlib.Omega.{arith}
+use Prim.Native.Nat.{ℕ, _-_, _<_, min}
 use lib.IntN.{ℤ, pos}
 use lib.ListN.{length, getD, replicate}
 use Rattle.head.specs.Class.{classOf}
@@ -17,14 +16,14 @@ use Rattle.cell.specs.declared.checks.Verdict.the-variants.{Fine}
 use Rattle.cell.specs.Ranges.{cardOk, soilOk, soilOf, rowOk, fieldsOk, lifeOf, nextOf, queueOf}
 use Rattle.cell.specs.RangeLaws.{cleared-queue}
 use Rattle.cell.specs.Refusals.{sounded}
-use Rattle.cell.specs.CheckLaws.{Passed, InOrder, order-old, order-gap}
+use Rattle.cell.specs.CheckLaws.{InOrder, order-old, order-gap}
 use Rattle.cell.specs.Step.{stepAmounts}
 use Rattle.cell.specs.AnswerLaws.{lets-through}
 use Rattle.site.specs.Rows.{partAt}
 use Rattle.site.specs.Site.{soilWidth, rowWidth, soilFits, rowsFit, cellFits, siteAnswer, clearNumber, clearRows}
 use Rattle.site.specs.SiteLaws.{reached, cleared-part}
 use Rattle.account.specs.Ledger.{History, Kept, countsOf, downFrom}
-use Rattle.account.specs.Run.{Plot, Call, ends, told, rowOf, plotOf, Ran, done, then}
+use Rattle.account.specs.Run.{Call, ends, told, rowOf, plotOf, Ran, done, then}
 use Rattle.account.proofs.Induction.{over-any-run}
 use Rattle.account.proofs.Plots.{rules}
 use Rattle.account.proofs.Order.{counts-run}

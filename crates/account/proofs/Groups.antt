@@ -1,10 +1,10 @@
 -- One accepted step seen from one group: what stood for it, with what the step put in, was drawn, or released, or stands. Assumes nothing.
-use mathlib.Core.Path.{_≡_, refl, ap, sym, _∙_}
+use mathlib.Core.Path.{_≡_, ap, sym, _∙_}
 use mathlib.Core.List.{List}
-use Prim.Native.Nat.{ℕ, zero, suc, _+_, _-_, _≤_, _<_}
+use Prim.Native.Nat.{ℕ, suc, _+_, _-_, _≤_}
 use native.Mathlib.Omega.{arith}
 use native.Mathlib.Decide.{decLe, ℕ-discrete}
-use Rattle.cell.specs.Queue.{slot, just, total}
+use Rattle.cell.specs.Queue.{slot, just}
 use Rattle.cell.specs.QueueLaws.{just-same, just-other, slot-none}
 use Rattle.cell.specs.AnswerLaws.{Moves}
 use Rattle.account.specs.Ledger.{Step, put, drew, freed, stands}

@@ -2,14 +2,14 @@
 use mathlib.Core.Path.{_≡_, refl, ap, sym, _∙_}
 use mathlib.Core.List.{List, [], _∷_}
 use mathlib.Core.Option.{Option, some, none}
-use Prim.Native.Nat.{ℕ, zero, suc, _+_, _-_, _≤_, _<_}
+use Prim.Native.Nat.{ℕ, suc, _+_, _-_, _≤_, _<_}
 use native.Mathlib.Omega.{arith}
 use lib.IntN.{ℤ, pos, _+ℤ_, _-ℤ_}
 use lib.ListN.{length, replicate}
-use Rattle.cell.specs.Queue.{slot, just, total}
+use Rattle.cell.specs.Queue.{slot, total}
 use Rattle.cell.specs.QueueLaws.{just-other, slot-none, slot-cleared, total-cleared}
 use Rattle.cell.specs.AnswerLaws.{Moves}
-use Rattle.account.specs.Ledger.{Step, History, Kept, Spread, each, put, drew, freed, stands, over, upTo, sum, netRecharge, waiting, plantUse}
+use Rattle.account.specs.Ledger.{Step, History, Kept, Spread, each, put, drew, freed, stands, over, sum, netRecharge, waiting, plantUse}
 use Rattle.account.specs.Run.{Plot, noted, ends, told}
 use Rattle.account.proofs.Sums.{up-just, up-stands}
 use Rattle.account.proofs.Signed.{sub-add-sub, settle}

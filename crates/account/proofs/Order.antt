@@ -1,16 +1,14 @@
 -- Lives and counts over any run: the accepted readings of a life have counts 0, 1, 2, .. , and a fresh life is let through from count 0. Assumes nothing.
-use mathlib.Core.Path.{_≡_, refl, ap, sym, _∙_, subst}
+use mathlib.Core.Path.{_≡_, refl, ap, sym, _∙_}
 use mathlib.Core.Bool.{Bool, true, false, cond}
 use mathlib.Core.Logic.{_⊎_, inl, inr}
 use mathlib.Core.List.{List, [], _∷_}
 use mathlib.Core.Option.{Option, some, none, Option·some-injective}
-use Prim.Native.Nat.{ℕ, zero, suc, _+_, _≤_, _<_}
-use native.Mathlib.Numerals.{add-one}
+use Prim.Native.Nat.{ℕ, _+_, _<_}
 use native.Mathlib.Omega.{arith}
 use native.Mathlib.Decide.{ℕ-discrete}
-use borrow.Author.Tests.{eqb-true, eqb-false, eq-eqb, ne-eqb}
+use borrow.Author.Tests.{eqb-true, eq-eqb, ne-eqb}
 use lib.Dec.{eqb}
-use lib.IntN.{ℤ}
 use lib.ListN.{length, replicate}
 use Rattle.cell.specs.declared.Amounts.{Amounts}
 use Rattle.cell.specs.declared.Answer.{Answer}
@@ -25,7 +23,7 @@ use Rattle.site.specs.Rows.{partAt}
 use Rattle.site.specs.Site.{soilWidth, siteAnswer, siteRows}
 use Rattle.site.specs.SiteLaws.{row-answer, own-row}
 use Rattle.account.specs.Ledger.{Step, History, countsOf, downFrom}
-use Rattle.account.specs.Run.{Plot, Call, noted, ends, told, rowOf, stepOf, plotOf}
+use Rattle.account.specs.Run.{Call, noted, told, rowOf, stepOf, plotOf}
 use Rattle.account.proofs.Plots.{row-quiet}
 use Rattle.account.proofs.Induction.{along}
 

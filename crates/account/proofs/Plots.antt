@@ -1,9 +1,9 @@
 -- A plot of a site takes steps that move water as they must: what the contract of the site's step gives, and nothing else. Assumes nothing.
-use mathlib.Core.Path.{_≡_, refl, ap, sym, _∙_, subst}
+use mathlib.Core.Path.{_≡_, refl, ap, subst}
 use mathlib.Core.Bool.{Bool, true, false, cond}
-use mathlib.Core.List.{List, [], _∷_}
-use mathlib.Core.Option.{Option, some, none, Option·some-injective}
-use Prim.Native.Nat.{ℕ, _≤_}
+use mathlib.Core.List.{List}
+use mathlib.Core.Option.{some, none, Option·some-injective}
+use Prim.Native.Nat.{ℕ}
 use native.Mathlib.Omega.{arith}
 use borrow.Author.Tests.{eqb-true, eqb-false}
 use lib.Dec.{eqb}
@@ -14,13 +14,13 @@ use Rattle.cell.specs.declared.Answer.the-variants.{Accepted, Refused}
 use Rattle.cell.specs.declared.Card.{Card}
 use Rattle.cell.specs.declared.Reading.{Reading}
 use Rattle.cell.specs.Ranges.{queueOf}
-use Rattle.cell.specs.Step.{newRow, stepDelay, stepDraws}
+use Rattle.cell.specs.Step.{newRow}
 use Rattle.cell.specs.AnswerLaws.{Moves, moves}
 use Rattle.site.specs.Rows.{partAt}
-use Rattle.site.specs.Site.{soilWidth, rowWidth, siteAnswer, siteRows, SiteGives}
+use Rattle.site.specs.Site.{soilWidth, siteAnswer, siteRows}
 use Rattle.site.specs.SiteLaws.{row-answer, own-row, other-row, rows-stay}
 use Rattle.account.specs.Ledger.{Step}
-use Rattle.account.specs.Run.{Plot, Call, rowOf, stepOf, plotOf}
+use Rattle.account.specs.Run.{Call, rowOf, stepOf, plotOf}
 use Rattle.account.proofs.Induction.{Rules}
 
 module _ (card : Card) (rows : List ℕ) (c : Call) where

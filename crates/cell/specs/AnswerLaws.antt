@@ -2,12 +2,11 @@
 use mathlib.Core.Path.{_≡_, refl, sym, ap, _∙_}
 use mathlib.Core.Bool.{true, false}
 use mathlib.Core.List.{List}
-use Prim.Native.Nat.{ℕ, suc, _+_, _*_, _≤_}
+use Prim.Native.Nat.{ℕ, suc, _+_, _≤_}
 use native.Mathlib.Omega.{arith}
 use lib.IntN.{ℤ, pos, natAbs, _-ℤ_}
 use lib.ListN.{length}
 use Rattle.cell.specs.declared.Amounts.{Amounts}
-use Rattle.cell.specs.declared.Answer.{Answer}
 use Rattle.cell.specs.declared.Answer.the-variants.{Accepted, Refused}
 use Rattle.cell.specs.declared.Card.{Card}
 use Rattle.cell.specs.declared.Depth.{Depth}
@@ -23,8 +22,8 @@ use Rattle.cell.specs.CheckLaws.{Passed, passed, verdict-fine, verdict-c
 use Rattle.cell.specs.Parts.{Checked}
 use Rattle.cell.specs.Queue.{slot, just, total, shifted, spared}
 use Rattle.cell.specs.QueueLaws.{total-in, slot-shifted, slot-spared, slot-joined, length-shifted, length-spared}
-use Rattle.cell.specs.Step.{given, release, runoff, etvad, etstor, etsat, drain, stored, direct, recharge, queueAfter, stepAmounts, rowAfter, judged, answerOf, newRow, stepDelay, stepDraws, delay, draws, lack}
-use Rattle.cell.specs.StepLaws.{given-most, delay-most, given-parts, stored-none, draws-total, draws-length, totals, recharge-parts, row-queue, runoff-given, etvad-pet, plants-pet, drain-most, stored-most, release-most, recharge-most, after-in, after-length, queue-in, queue-length, row-life, row-next, row-kept, row-length}
+use Rattle.cell.specs.Step.{release, runoff, etvad, etstor, etsat, drain, stored, direct, recharge, queueAfter, stepAmounts, rowAfter, judged, answerOf, newRow, stepDelay, stepDraws, delay, draws, lack}
+use Rattle.cell.specs.StepLaws.{given-most, delay-most, given-parts, stored-none, draws-total, draws-length, totals, recharge-parts, row-queue, runoff-given, plants-pet, drain-most, stored-most, release-most, recharge-most, after-in, after-length, queue-in, queue-length, row-life, row-next, row-kept, row-length}
 
 -- the range of each amount
 pub record AmountsIn (a : Amounts) : Type 0 where

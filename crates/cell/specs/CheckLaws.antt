@@ -1,5 +1,5 @@
 -- What is known where every check has passed, and what the order of lives and counts lets through. Assumes nothing.
-use mathlib.Core.Path.{_≡_, refl, sym, ap, _∙_}
+use mathlib.Core.Path.{_≡_, refl}
 use mathlib.Core.Bool.{Bool, true, false, not, _&&_, _||_, and-false}
 use mathlib.Core.Logic.{_⊎_, inl, inr}
 use mathlib.Core.List.{List}
@@ -19,7 +19,7 @@ use Rattle.cell.specs.declared.Card.{Card}
 use Rattle.cell.specs.declared.Depth.{Depth}
 use Rattle.cell.specs.declared.Reading.{Reading}
 use Rattle.cell.specs.declared.Refusal.{Refusal}
-use Rattle.cell.specs.declared.Refusal.the-variants.{BadCard, BadSoil, BadRow, Old, Gap, BadReading}
+use Rattle.cell.specs.declared.Refusal.the-variants.{BadCard}
 use Rattle.cell.specs.declared.checks.Verdict.{Verdict}
 use Rattle.cell.specs.declared.checks.Verdict.the-variants.{Fine, Bad}
 use Rattle.cell.specs.Parts.{Checked}

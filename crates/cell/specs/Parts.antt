@@ -1,7 +1,6 @@
 -- An accepted step in the parts that the code works it out in: what each part gives, and the ranges that it asks of its caller.
 -- Nothing here says what is right: the parts are proved to come to the step of `Step`.
 use Prim.Native.Nat.{ℕ, _+_, _-_, _≤_}
-use lib.IntN.{ℤ}
 use Rattle.cell.specs.declared.Amounts.{Amounts}
 use Rattle.cell.specs.declared.Card.{Card}
 use Rattle.cell.specs.declared.Depth.{Depth}

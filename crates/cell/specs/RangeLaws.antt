@@ -1,6 +1,6 @@
 -- What a card, soil numbers, a row and a reading that are in range tell, part by part. Assumes nothing.
 use mathlib.Core.Path.{_≡_, refl}
-use mathlib.Core.Bool.{Bool, true, false, _&&_, and-eq-true-iff}
+use mathlib.Core.Bool.{true, and-eq-true-iff}
 use mathlib.Core.List.{List, [], _∷_}
 use Prim.Native.Nat.{ℕ, suc, _≤_, suc-le-suc, zero-le, min}
 use borrow.Author.Tests.{leb-true, eqb-true, le-leb, eq-eqb}

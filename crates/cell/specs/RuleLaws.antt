@@ -14,7 +14,7 @@ use Rattle.cell.specs.declared.Depth.{Depth}
 use Rattle.cell.specs.declared.Depth.the-variants.{Over, Under}
 use Rattle.cell.specs.Bounds.{share, either, abs-sub, abs-minus}
 use Rattle.cell.specs.Depth.{sided, depthOf, distance}
-use Rattle.cell.specs.Rules.{nearest, curveOf, stormOf, reachOf, delayOf, shallowOf, runoffOf, etvadOf, lackOf, fadingOf, etsatOf, drainOf, storedOf, directOf, rechargeOf}
+use Rattle.cell.specs.Rules.{nearest, curveOf, stormOf, reachOf, delayOf, shallowOf, runoffOf, lackOf, fadingOf, etsatOf, drainOf, storedOf, directOf, rechargeOf}
 
 -- ---- the depth of two heights within their ranges
 sided-abs : (d : ℤ) → distance (sided d) ≡ natAbs d

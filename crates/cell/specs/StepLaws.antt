@@ -1,24 +1,23 @@
 -- Laws of an accepted step: what the floors above cite of the amounts, of the queue and of the row. Assumes nothing.
-use mathlib.Core.Path.{_≡_, refl, sym, ap, _∙_}
+use mathlib.Core.Path.{_≡_, refl, _∙_}
 use mathlib.Core.Bool.{true}
-use mathlib.Core.List.{List, [], _∷_, _++_}
-use Prim.Native.Nat.{ℕ, zero, suc, _+_, _-_, _*_, _≤_, _<_}
+use mathlib.Core.List.{List}
+use Prim.Native.Nat.{ℕ, _+_, _-_, _≤_}
 use native.Mathlib.Nat.{le-trans}
 use native.Mathlib.Omega.{arith}
-use lib.IntN.{ℤ, pos, natAbs, _-ℤ_}
-use lib.ListN.{length, take, drop, length-append, length-take, length-drop}
+use lib.IntN.{pos, natAbs, _-ℤ_}
+use lib.ListN.{length, drop, length-append, length-take, length-drop}
 use lib.Seq.{take-all, take-at}
 use Rattle.cell.specs.declared.Card.{Card}
 use Rattle.cell.specs.declared.Depth.{Depth}
 use Rattle.cell.specs.declared.Reading.{Reading}
 use Rattle.cell.specs.declared.ranges.Soil.{Soil}
 use Rattle.cell.specs.Parts.{Checked}
-use Rattle.cell.specs.Depth.{distance}
 use Rattle.cell.specs.Ranges.{queueOf, slotsOf, rowOk, lifeOf, nextOf}
 use Rattle.cell.specs.RangeLaws.{RowIn, row-in, row-ok}
-use Rattle.cell.specs.Queue.{slot, total, shifted, taken, spared, joined}
-use Rattle.cell.specs.QueueLaws.{SlotsIn, slot-in, total-in, total-shifted, total-spared, total-joined, taken-le, length-shifted, length-spared, length-joined, length-taken, shifted-in, spared-in, joined-in, take-in, drop-in, append-in}
-use Rattle.cell.specs.RuleLaws.{curve-low, curve-high, storm-le, delay-le, runoff-le, lack-le, lack-most, etsat-le, drain-le, split, none-stored, recharge-is, recharge-le}
+use Rattle.cell.specs.Queue.{total, shifted, spared}
+use Rattle.cell.specs.QueueLaws.{SlotsIn, slot-in, total-shifted, total-spared, total-joined, taken-le, length-shifted, length-spared, length-joined, length-taken, shifted-in, spared-in, joined-in, take-in, drop-in, append-in}
+use Rattle.cell.specs.RuleLaws.{curve-low, curve-high, storm-le, delay-le, runoff-le, lack-most, etsat-le, drain-le, split, none-stored, recharge-is, recharge-le}
 use Rattle.cell.specs.Step.{given, release, curve, storm, delay, runoff, etvad, lack, draws, etstor, etsat, drain, sunk, stored, direct, recharge, queueAfter, rowAfter}
 
 module _ (card : Card) (soil : Soil) (r : Reading) (d : Depth) (h : Checked card soil r d) where

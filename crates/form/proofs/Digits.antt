@@ -1,8 +1,8 @@
 -- The turns of reading a number, over the place i of the slice s. Assumes nothing.
-use mathlib.Core.Path.{_≡_, refl, sym, ap, _∙_, subst}
+use mathlib.Core.Path.{_≡_, refl, sym}
 use mathlib.Core.List.{List, [], _∷_, _++_}
-use mathlib.Core.Bool.{Bool, true, false, cond, false≢true}
-use Prim.Native.Nat.{ℕ, zero, suc, _+_, _-_, _*_, _/_, _%_, _≤_, _<_}
+use mathlib.Core.Bool.{Bool, true, false, false≢true}
+use Prim.Native.Nat.{ℕ, zero, suc, _+_, _-_, _*_, _≤_, _<_}
 use native.Mathlib.Numerals.{add-one}
 use native.Mathlib.Omega.{arith}
 use lib.ListN.{length, getD, drop, drop-of-length-le}
@@ -10,10 +10,10 @@ use lib.Seq.{drop-cons, drop-drop}
 use mir.Syntax.{w64}
 use mir.Val.{SFits}
 use Rattle.form.specs.Signed.{isNeg}
-use lib.Dec.{ltb, eqb}
+use lib.Dec.{ltb}
 use borrow.Author.Tests.{lt-ltb, le-ltb, eq-eqb, ne-eqb, ltb-true, ltb-false}
 use Rattle.form.specs.Dec.{numAt, numGo, numStart, digitOf}
-use Rattle.form.specs.Form.{byteAt, posOf, negOf, AtMost, valAt, isMark, Out, push, failed, formAt, marks, formText, valText, headZ, tailZ, okVal, fits}
+use Rattle.form.specs.Form.{byteAt, posOf, negOf, AtMost, valAt, isMark, push, failed, formAt, marks, formText, valText, headZ, tailZ, okVal, fits}
 use Rattle.form.specs.DecLaws.{num-one}
 use Rattle.form.specs.HexLaws.{hex-one}
 use Rattle.form.specs.declared.value.Val.{Val}

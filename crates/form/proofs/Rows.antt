@@ -1,17 +1,16 @@
 -- The turns of reading a form several times. Assumes nothing.
 use mathlib.Core.Path.{_≡_, refl, sym, ap, _∙_}
-use mathlib.Core.List.{List, [], _∷_, _++_}
-use mathlib.Core.Bool.{Bool, true, false}
-use Prim.Native.Nat.{ℕ, zero, suc, _+_, _-_, _*_, _≤_, _<_}
-use native.Mathlib.Nat.{add-zero, add-suc, suc-add, zero-add}
-use native.Mathlib.Numerals.{add-one}
+use mathlib.Core.List.{List}
+use mathlib.Core.Bool.{true, false}
+use Prim.Native.Nat.{ℕ, suc, _+_, _-_, _*_, _≤_, _<_}
+use native.Mathlib.Nat.{add-zero}
 use native.Mathlib.Omega.{arith}
 use lib.ListN.{length}
 use lib.Seq.{sets}
 use lib.IntN.{ℤ}
 use Rattle.form.specs.Put.{sets-step}
-use Rattle.form.specs.Form.{Out, formAt, takenOf, marks}
-use Rattle.form.specs.Many.{Run, onto, manyAt, ranOf}
+use Rattle.form.specs.Form.{formAt, takenOf, marks}
+use Rattle.form.specs.Many.{Run, manyAt, ranOf}
 use Rattle.form.specs.declared.line.Taken.{Taken}
 use Rattle.form.specs.declared.lines.Ran.{Ran}
 use Rattle.form.specs.RunLaws.{form-length, many-end, many-more, many-stop, rows-less}

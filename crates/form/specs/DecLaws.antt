@@ -1,19 +1,17 @@
 -- Laws of decimal text: a number's text is read back, and what is read is the number's one text. Assumes nothing.
-use mathlib.Core.Path.{_≡_, refl, sym, ap, _∙_, subst}
+use mathlib.Core.Path.{_≡_, refl, sym, ap, _∙_}
 use mathlib.Core.List.{List, [], _∷_, _++_, append-assoc, append-nil}
 use mathlib.Core.Bool.{Bool, true, false, cond}
-use mathlib.Core.Logic.{⊎-elim}
 use Prim.Native.Nat.{ℕ, zero, suc, _+_, _-_, _*_, _/_, _%_, _^_, _≤_, _<_}
 use native.Mathlib.Nat.{div-add-mod', sub-self}
 use lib.Seq.{append-snoc, sets}
 use Rattle.form.specs.Put.{sets-append}
 use native.Mathlib.Numerals.{add-one}
 use native.Mathlib.Omega.{arith}
-use lib.ListN.{length, getD, take, drop, set, length-append}
-use lib.Dec.{ltb, eqb, T}
-use borrow.Author.Tests.{lt-ltb, le-ltb, eq-eqb, ne-eqb, ltb-true, ltb-false, eqb-true, eqb-false}
-use Rattle.form.specs.Dec.{dec, decF, numAt, numGo, numStart, digitOf}
-use Rattle.form.specs.declared.decimal.Num.{Num}
+use lib.ListN.{length, take, set, length-append}
+use lib.Dec.{ltb}
+use borrow.Author.Tests.{lt-ltb, le-ltb, ne-eqb, ltb-true, ltb-false}
+use Rattle.form.specs.Dec.{dec, decF, numGo, numStart, digitOf}
 use Rattle.form.specs.declared.decimal.Num.the-variants.{Value, Bad}
 
 -- more room for digits changes nothing

@@ -1,6 +1,6 @@
 -- A form is a line's fixed bytes with a mark for each value: '#' (35) a decimal that fits 32 bits, '$' (36) a signed decimal that fits 64 bits, '%' (37) eight
 -- hex digits. One form says both what reading a line finds and what its text is. Definitions only.
-use Prim.Native.Nat.{ℕ, zero, suc, _+_, _-_, _^_, _≤_}
+use Prim.Native.Nat.{ℕ, zero, suc, _+_, _≤_}
 use mathlib.Core.List.{List, [], _∷_, _++_}
 use mathlib.Core.Bool.{Bool, true, false, cond, _&&_}
 use lib.ListN.{drop}

@@ -1,25 +1,25 @@
 -- Laws of forms: a form's text is read back, and what is read is the form's one text. Assumes nothing.
-use mathlib.Core.Path.{_≡_, refl, sym, ap, _∙_, subst}
+use mathlib.Core.Path.{_≡_, refl, sym, ap, _∙_}
 use mathlib.Core.List.{List, [], _∷_, _++_, map, append-assoc, append-nil}
 use mathlib.Core.Bool.{Bool, true, false, cond, _&&_, false≢true}
-use Prim.Native.Nat.{ℕ, zero, suc, _+_, _-_, _*_, _/_, _%_, _^_, _≤_, _<_}
+use Prim.Native.Nat.{ℕ, zero, suc, _+_, _-_, _≤_, _<_}
 use native.Mathlib.Nat.{add-zero, add-suc, suc-add, add-assoc}
 use native.Mathlib.Numerals.{add-one}
 use native.Mathlib.Omega.{arith}
-use lib.ListN.{length, getD, take, drop, length-append, length-drop, take-append-drop, drop-of-length-le}
+use lib.ListN.{length, getD, take, drop, length-append, length-drop, drop-of-length-le}
 use lib.Seq.{append-snoc, drop-append-seam, drop-append-add, take-add, drop-cons, take-suc}
 use lib.IntN.{ℤ, pos, negsuc, natAbs}
 use lib.Dec.{ltb, eqb}
-use borrow.Author.Tests.{lt-ltb, le-ltb, eq-eqb, ne-eqb, ltb-true, ltb-false, eqb-true, eqb-false}
+use borrow.Author.Tests.{lt-ltb, eq-eqb, ne-eqb, ltb-true, ltb-false, eqb-true, eqb-false}
 use Rattle.form.specs.Dec.{dec, numAt, numStart, digitOf}
-use Rattle.form.specs.DecLaws.{Read, num-back, num-one, num-in, stops, len-20}
-use Rattle.form.specs.Hex.{hex, hexAt, hexGo}
-use Rattle.form.specs.HexLaws.{Hexed, hex-back, hex-one, hex-len}
+use Rattle.form.specs.DecLaws.{num-back, num-one, num-in, stops, len-20}
+use Rattle.form.specs.Hex.{hex, hexAt}
+use Rattle.form.specs.HexLaws.{hex-back, hex-one, hex-len}
 use Rattle.form.specs.Signed.{isNeg, size-fits}
 use Rattle.form.specs.Words.{wordOf}
 use mir.Syntax.{w64}
 use mir.Val.{SFits}
-use Rattle.form.specs.Form.{byteAt, posOf, negOf, valAt, valText, signedText, isMark, Out, push, failed, withVal, formAt, formText, headOr, headZ, tailZ, marks, okVal, okVals}
+use Rattle.form.specs.Form.{byteAt, posOf, negOf, valAt, valText, isMark, Out, push, failed, withVal, formAt, formText, headOr, marks, okVal, okVals}
 use Rattle.form.specs.declared.decimal.Num.{Num}
 use Rattle.form.specs.declared.decimal.Num.the-variants.{Value, Bad}
 use Rattle.form.specs.declared.value.Val.{Val}

@@ -1,18 +1,17 @@
 -- Laws of hex text: a number's text is read back, and what is read is the number's one text. Assumes nothing.
-use mathlib.Core.Path.{_≡_, refl, sym, ap, _∙_, subst}
+use mathlib.Core.Path.{_≡_, refl, sym, _∙_}
 use mathlib.Core.List.{List, [], _∷_, _++_, append-assoc, append-nil}
-use mathlib.Core.Bool.{Bool, true, false, cond}
+use mathlib.Core.Bool.{Bool, true, false}
 use Prim.Native.Nat.{ℕ, zero, suc, _+_, _-_, _*_, _/_, _%_, _^_, _≤_, _<_}
 use native.Mathlib.Nat.{div-add-mod', add-zero, add-suc, suc-add, zero-add}
 use native.Mathlib.Numerals.{add-one}
 use native.Mathlib.Omega.{arith}
-use lib.ListN.{length, getD, take, drop, set, length-append}
+use lib.ListN.{length, take, set, length-append}
 use lib.Seq.{append-snoc, sets}
 use lib.Dec.{ltb}
 use borrow.Author.Tests.{lt-ltb, le-ltb, ltb-true, ltb-false}
 use Rattle.form.specs.Put.{sets-append}
 use Rattle.form.specs.Hex.{hex, hexGo, hexOf, hexByte}
-use Rattle.form.specs.declared.decimal.Num.{Num}
 use Rattle.form.specs.declared.decimal.Num.the-variants.{Value, Bad}
 
 pub hex-len : (k n : ℕ) → length (hex k n) ≡ k

@@ -1,15 +1,10 @@
 -- A form that stands several times, one behind the other. Definitions only.
-use mathlib.Core.Path.{_≡_, refl, sym, ap, _∙_}
 use mathlib.Core.List.{List, [], _∷_, _++_}
 use mathlib.Core.Bool.{Bool, true, false, cond, _&&_}
-use Prim.Native.Nat.{ℕ, zero, suc, _+_, _-_, _*_, _≤_, _<_}
-use native.Mathlib.Omega.{arith}
-use lib.ListN.{length, length-append, take, drop}
+use Prim.Native.Nat.{ℕ, zero, suc, _+_}
+use lib.ListN.{take, drop}
 use lib.IntN.{ℤ}
-use lib.Dec.{eqb}
-use Rattle.form.specs.Form.{Out, formAt, valAt, withVal, byteAt, isMark, failed, marks, formText, okVals, fits}
-use Rattle.form.specs.declared.value.Val.{Val}
-use Rattle.form.specs.declared.value.Val.the-variants.{Got, Not}
+use Rattle.form.specs.Form.{formAt, marks, formText, okVals, fits}
 use Rattle.form.specs.declared.lines.Ran.{Ran}
 
 -- what reading n times a form finds: as for one form, and how many stood there

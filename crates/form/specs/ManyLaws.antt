@@ -1,15 +1,15 @@
 -- Laws of a form that stands several times: its text is read back, and what is read is the one text. Assumes nothing.
 use mathlib.Core.Path.{_≡_, refl, sym, ap, _∙_}
 use mathlib.Core.List.{List, [], _∷_, _++_, append-assoc, append-nil}
-use mathlib.Core.Bool.{Bool, true, false, cond, _&&_, false≢true}
+use mathlib.Core.Bool.{Bool, true, false, cond, false≢true}
 use Prim.Native.Nat.{ℕ, zero, suc, _+_, _-_, _*_, _≤_, _<_}
 use native.Mathlib.Nat.{add-zero, add-assoc}
 use native.Mathlib.Omega.{arith}
 use lib.ListN.{length, take, drop, length-append, length-drop, take-append-drop}
 use lib.Seq.{take-at, drop-at, drop-drop, take-append-le, drop-append-le}
 use lib.IntN.{ℤ}
-use Rattle.form.specs.Form.{Out, formAt, formText, marks, isMark, headZ, tailZ, okVal, okVals, fits}
-use Rattle.form.specs.FormLaws.{FormRead, form-one, form-back, ok-lit, ok-length, parted, read, all-bytes, and-i, and-1, and-2}
+use Rattle.form.specs.Form.{Out, formAt, formText, marks, isMark, okVals, fits}
+use Rattle.form.specs.FormLaws.{form-one, form-back, ok-lit, parted, all-bytes, and-i, and-1, and-2}
 use Rattle.form.specs.Many.{Run, onto, manyAt, rowsText, okRows, rowsFit}
 use Rattle.form.specs.RunLaws.{form-length}
 

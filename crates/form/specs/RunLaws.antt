@@ -1,17 +1,16 @@
 -- What reading a form several times finds: as many values as marks, and how far it came. Assumes nothing.
-use mathlib.Core.Path.{_≡_, refl, sym, ap, _∙_}
-use mathlib.Core.List.{List, [], _∷_, _++_}
+use mathlib.Core.Path.{_≡_, refl, ap, _∙_}
+use mathlib.Core.List.{List, [], _∷_}
 use mathlib.Core.Bool.{Bool, true, false, cond, false≢true}
 use Prim.Native.Nat.{ℕ, zero, suc, _+_, _-_, _*_, _≤_, _<_}
 use native.Mathlib.Omega.{arith}
-use lib.ListN.{length, length-append, take, drop}
-use lib.IntN.{ℤ}
+use lib.ListN.{length, length-append}
 use lib.Dec.{eqb}
-use Rattle.form.specs.Form.{Out, formAt, valAt, withVal, byteAt, isMark, failed, marks, formText}
+use Rattle.form.specs.Form.{formAt, valAt, withVal, byteAt, isMark, failed, marks}
 use Rattle.form.specs.declared.value.Val.{Val}
 use Rattle.form.specs.declared.value.Val.the-variants.{Got, Not}
 use Rattle.form.specs.declared.lines.Ran.{Ran}
-use Rattle.form.specs.Many.{Run, onto, manyAt, ranOf}
+use Rattle.form.specs.Many.{onto, manyAt, ranOf}
 
 -- an accepted form has as many values as marks
 pub form-length : (f s : List ℕ) (at : ℕ) → formAt f s at .ok ≡ true → length (formAt f s at .vals) ≡ marks f

@@ -1,14 +1,14 @@
 -- The numbers of a line that can be printed are below 2 ^ 63, place by place. Assumes nothing.
-use mathlib.Core.Path.{_≡_, refl}
-use mathlib.Core.Bool.{Bool, true, _&&_, and-eq-true-iff}
+use mathlib.Core.Path.{_≡_}
+use mathlib.Core.Bool.{Bool, true}
 use mathlib.Core.List.{List, [], _∷_}
-use Prim.Native.Nat.{ℕ, zero, suc, _≤_, _<_, _^_}
+use Prim.Native.Nat.{ℕ, zero, suc, _<_, _^_}
 use native.Mathlib.Omega.{arith}
 use borrow.Author.Tests.{leb-true}
 use lib.Dec.{leb}
 use lib.ListN.{getD}
 use Rattle.cell.specs.declared.Amounts.{Amounts}
-use Rattle.cell.specs.Conj.{chain, told}
+use Rattle.cell.specs.Conj.{told}
 use Rattle.site.specs.declared.Sheet.{Sheet}
 use Rattle.text.specs.Printed.{most, amountsPrintable, sheetPrintable}
 

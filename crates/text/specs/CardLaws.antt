@@ -1,27 +1,26 @@
 -- What `card::read` finds, part by part: the laws that its proof cites. Assumes nothing.
 use mathlib.Core.Path.{_≡_, refl, sym, ap, _∙_}
-use mathlib.Core.List.{List, [], _∷_, _++_, map}
-use mathlib.Core.Bool.{Bool, true, false, cond, false≢true}
-use Prim.Native.Nat.{ℕ, zero, suc, _+_, _-_, _*_, _≤_, _<_}
+use mathlib.Core.List.{List, _++_, map}
+use mathlib.Core.Bool.{Bool, true, false, cond}
+use Prim.Native.Nat.{ℕ, suc, _+_, _-_, _*_, _≤_, _<_}
 use native.Mathlib.Numerals.{add-one}
 use native.Mathlib.Omega.{arith}
-use lib.ListN.{length, take, drop, getD, set, replicate, length-map, length-take, length-append, length-set, length-drop, drop-of-length-le}
+use lib.ListN.{length, take, drop, getD, set, replicate}
 use lib.Seq.{sets, sets-eq, set-at, drop-cons, take-suc, append-snoc, length-take-le, take-at}
-use lib.Dec.{ltb, eqb}
+use lib.Dec.{ltb}
 use lib.IntN.{ℤ, pos}
-use borrow.Author.Tests.{lt-ltb, le-ltb, eq-eqb, ne-eqb, ltb-true, ltb-false}
+use borrow.Author.Tests.{lt-ltb, le-ltb, eq-eqb, ne-eqb, ltb-false}
 use Rattle.form.specs.declared.line.Taken.{Taken}
 use Rattle.form.specs.declared.lines.Ran.{Ran}
 use Rattle.text.specs.declared.card.Counts.{Counts}
-use Rattle.cell.specs.declared.Card.{Card}
 use Rattle.text.specs.declared.card.CardRead.{CardRead}
 use Rattle.form.specs.Put.{sets-all}
 use Rattle.form.specs.Form.{Out, formAt, takenOf, byteAt}
 use Rattle.form.specs.Many.{Run, manyAt, ranOf}
-use Rattle.form.specs.RunLaws.{form-length, many-length, many-good}
+use Rattle.form.specs.RunLaws.{form-length, many-length}
 use Rattle.form.specs.Words.{wordOf}
 use Rattle.text.specs.Lines.{cardForm, depthForm, soilForm}
-use Rattle.text.specs.Cards.{noCounts, rangeCounts, countsOf, countsOfOut, depthsAt, ended, cardOf, noCard, refusedCard, Parsed, badLine, parsedOf, parse, cardResult, soilResult}
+use Rattle.text.specs.Cards.{noCounts, rangeCounts, countsOf, countsOfOut, depthsAt, cardOf, refusedCard, badLine, parse, cardResult, soilResult}
 
 -- a copy's turn
 pub copy-suc : (s d : List ℤ) (k : ℕ) → k < length s → k < length d → set (take k s ++ drop k d) k (getD s k (pos 0)) ≡ take (suc k) s ++ drop (suc k) d

@@ -1,28 +1,28 @@
 -- Each card has one text, and what was written is read back. Assumes nothing.
 use mathlib.Core.Path.{_≡_, refl, sym, ap, _∙_}
-use mathlib.Core.List.{List, [], _∷_, _++_, map, append-assoc, append-nil}
-use mathlib.Core.Bool.{Bool, true, false, cond, _&&_, false≢true}
+use mathlib.Core.List.{List, [], _∷_, _++_, map, append-assoc}
+use mathlib.Core.Bool.{Bool, true, false, false≢true}
 use Prim.Native.Nat.{ℕ, zero, suc, _+_, _-_, _*_, _≤_, _<_}
 use native.Mathlib.Nat.{sub-zero, zero-add}
 use native.Mathlib.Omega.{arith}
-use lib.ListN.{length, take, drop, getD, set, replicate, length-map, length-append, length-take, length-drop, take-append-drop, length-replicate}
+use lib.ListN.{length, take, drop, getD, set, replicate, length-map, length-append, length-drop, take-append-drop, length-replicate}
 use lib.Seq.{sets, sets-eq, take-at, drop-at, take-all, append-snoc, drop-cons, length-take-le}
 use lib.Dec.{leb, ltb, eqb}
 use lib.IntN.{ℤ, pos}
-use borrow.Author.Tests.{le-leb, lt-ltb, le-ltb, eq-eqb, ne-eqb, ltb-true, ltb-false, eqb-true, eqb-false}
+use borrow.Author.Tests.{le-leb, lt-ltb, le-ltb, eq-eqb, ne-eqb, ltb-false, eqb-true}
 use Rattle.text.specs.declared.Written.{Written}
 use native.Mathlib.Numerals.{add-one}
 use Rattle.text.specs.declared.card.Counts.{Counts}
 use Rattle.cell.specs.declared.Card.{Card}
 use Rattle.form.specs.Form.{Out, formAt, formText, byteAt, marks, okVals}
-use Rattle.form.specs.FormLaws.{FormRead, form-one, form-back, ok-length, ok-words, plain, parted, read, unword, cells-take, take-byte, byte-is, byte-seam, small-oks, smallZ, allSmall, and-i, and-1, and-2}
+use Rattle.form.specs.FormLaws.{form-one, form-back, ok-length, ok-words, plain, parted, read, unword, cells-take, take-byte, byte-is, byte-seam, small-oks, smallZ, allSmall, and-i, and-1, and-2}
 use Rattle.form.specs.Many.{Run, manyAt, rowsText, okRows, rowsFit}
 use Rattle.form.specs.RunLaws.{many-length}
 use Rattle.form.specs.DecLaws.{stops}
-use Rattle.form.specs.ManyLaws.{RowsRead, many-one, many-back, ran, rows-fit, rows-front}
+use Rattle.form.specs.ManyLaws.{many-one, many-back, ran, rows-fit, rows-front}
 use Rattle.form.specs.Words.{wordOf}
 use Rattle.text.specs.Lines.{cardForm, depthForm, soilForm}
-use Rattle.text.specs.Cards.{noCounts, rangeCounts, countsOf, countsOfOut, depthsAt, ended, cardOf, noCard, Parsed, badLine, parsedOf, parse, cardText, cardParts, allZero, given, cardWritten, cardBuffer, Wrote}
+use Rattle.text.specs.Cards.{rangeCounts, countsOf, depthsAt, parse, cardText, cardParts, allZero, given, Wrote}
 use Rattle.text.specs.Written.{noText}
 use Rattle.text.specs.ReadingLaws.{write-short, write-fits}
 use Rattle.form.specs.Put.{sets-step}
@@ -126,34 +126,44 @@ kept-depths n vs o c l =
     rw (e, map-app wordOf vs (drop (0 + length vs) z), take-at (map wordOf vs) (map wordOf (drop (0 + length vs) z)) n (length-map vs wordOf ∙ c))
     (map-two vs ∙ rows-words n depthForm vs refl o)
 
+-- a card that is read has a good first line, good depths and good soil lines
+module _ (s : List ℕ) where
+  abbrev countsIn : Counts
+  countsIn = countsOf s
+
+  abbrev depthsIn : Out
+  depthsIn = depthsAt (countsIn .delays) s (countsIn .next)
+
+  abbrev soilIn : Run
+  soilIn = manyAt (countsIn .cells) soilForm s (depthsIn .next)
+
+  all-good : parse s .line ≡ 0 → (countsIn .ok ≡ true) × (depthsIn .ok ≡ true) × (soilIn .ok ≡ true)
+  unfolding parse
+  all-good e = go (countsIn .ok) refl (depthsIn .ok) refl (soilIn .ok) refl
+    where
+      go : (x : Bool) → countsIn .ok ≡ x → (y : Bool) → depthsIn .ok ≡ y → (z : Bool) → soilIn .ok ≡ z → (countsIn .ok ≡ true) × (depthsIn .ok ≡ true) × (soilIn .ok ≡ true)
+      go false k y l z n = absurd (let q : 1 ≡ 0 = rw k at e in omega arith)
+      go true k false l z n = absurd (let q : 1 ≡ 0 = rw (k, l) at e in omega arith)
+      go true k true l false n = absurd (let q : soilIn .good + 2 ≡ 0 = rw (k, l, n) at e in omega arith)
+      go true k true l true n = (k, l, n)
+
 -- what is read as a card is the card's one text
 pub card-one : (s : List ℕ) → parse s .line ≡ 0 → take (parse s .next) s ≡ cardText (parse s .card) (parse s .soil)
 unfolding parse cardText
-card-one s e = go (countsOf s .ok) refl (depthsAt (countsOf s .delays) s (countsOf s .next) .ok) refl (manyAt (countsOf s .cells) soilForm s (depthsAt (countsOf s .delays) s (countsOf s .next) .next) .ok) refl
-  where
-    h : Counts
-    h = countsOf s
-
-    d : Out
-    d = depthsAt (h .delays) s (h .next)
-
-    m : Run
-    m = manyAt (h .cells) soilForm s (d .next)
-
-    go : (x : Bool) → h .ok ≡ x → (y : Bool) → d .ok ≡ y → (z : Bool) → m .ok ≡ z → take (parse s .next) s ≡ cardText (parse s .card) (parse s .soil)
-    go false k y l z n = absurd (let q : 1 ≡ 0 = rw k at e in omega arith)
-    go true k false l z n = absurd (let q : 1 ≡ 0 = rw (k, l) at e in omega arith)
-    go true k true l false n = absurd (let q : m .good + 2 ≡ 0 = rw (k, l, n) at e in omega arith)
-    go true k true l true n =
-        let hr = head-one s k in
-        let dr = depths-one (h .delays) s (h .next) (hr .room) l in
-        let mr = many-one (h .cells) soilForm s (d .next) refl (dr .room) n in
-        let a : List ℕ = formText cardForm (pos (h .cells) ∷ pos (h .delays) ∷ []) in
-        let b : List ℕ = rowsText (h .delays) depthForm (d .vals) in
-        let c : List ℕ = rowsText (h .cells) soilForm (m .vals) in
-        rw (k, l, n, kept-depths (h .delays) (d .vals) (dr .fits) (dr .count) (hr .few))
-        (mr .text ∙ ap (λ (x : List ℕ). x ++ c) (dr .text ∙ ap (λ (x : List ℕ). x ++ (b ++ (10 ∷ []))) (hr .text))
-        ∙ append-assoc a (b ++ (10 ∷ [])) c ∙ ap (λ (x : List ℕ). a ++ x) (append-snoc b 10 c))
+card-one s e =
+    let g = all-good s e in
+    let h = countsIn s in
+    let d = depthsIn s in
+    let m = soilIn s in
+    let hr = head-one s (g .0) in
+    let dr = depths-one (h .delays) s (h .next) (hr .room) (g .1) in
+    let mr = many-one (h .cells) soilForm s (d .next) refl (dr .room) (g .2) in
+    let a : List ℕ = formText cardForm (pos (h .cells) ∷ pos (h .delays) ∷ []) in
+    let b : List ℕ = rowsText (h .delays) depthForm (d .vals) in
+    let c : List ℕ = rowsText (h .cells) soilForm (m .vals) in
+    rw (g .0, g .1, g .2, kept-depths (h .delays) (d .vals) (dr .fits) (dr .count) (hr .few))
+    (mr .text ∙ ap (λ (x : List ℕ). x ++ c) (dr .text ∙ ap (λ (x : List ℕ). x ++ (b ++ (10 ∷ []))) (hr .text))
+    ∙ append-assoc a (b ++ (10 ∷ [])) c ∙ ap (λ (x : List ℕ). a ++ x) (append-snoc b 10 c))
 
 -- ---- what was written is read back
 -- a card that a text gives, with its soil numbers
@@ -406,32 +416,19 @@ unused-zero vs l =
 pub card-given : (s : List ℕ) → parse s .line ≡ 0
     → (given (parse s .card) ≡ true) × (length (parse s .soil) ≡ parse s .card .cells * 5) × (okRows (parse s .card .cells) soilForm (parse s .soil) ≡ true)
 unfolding parse given
-card-given s e = go (countsOf s .ok) refl (depthsAt (countsOf s .delays) s (countsOf s .next) .ok) refl (manyAt (countsOf s .cells) soilForm s (depthsAt (countsOf s .delays) s (countsOf s .next) .next) .ok) refl
-  where
-    h : Counts
-    h = countsOf s
-
-    d : Out
-    d = depthsAt (h .delays) s (h .next)
-
-    m : Run
-    m = manyAt (h .cells) soilForm s (d .next)
-
-    go : (x : Bool) → h .ok ≡ x → (y : Bool) → d .ok ≡ y → (z : Bool) → m .ok ≡ z
-        → (given (parse s .card) ≡ true) × (length (parse s .soil) ≡ parse s .card .cells * 5) × (okRows (parse s .card .cells) soilForm (parse s .soil) ≡ true)
-    go false k y l z n = absurd (let q : 1 ≡ 0 = rw k at e in omega arith)
-    go true k false l z n = absurd (let q : 1 ≡ 0 = rw (k, l) at e in omega arith)
-    go true k true l false n = absurd (let q : m .good + 2 ≡ 0 = rw (k, l, n) at e in omega arith)
-    go true k true l true n =
-        let hr = head-one s k in
-        let dr = depths-one (h .delays) s (h .next) (hr .room) l in
-        let mr = many-one (h .cells) soilForm s (d .next) refl (dr .room) n in
-        let u : allZero (drop (h .delays) (map wordOf (sets (replicate 30 (pos 0)) 0 (d .vals)))) ≡ true = rw (dr .count) at (unused-zero (d .vals) (omega (arith, dr .count, hr .few))) in
-        rw (k, l, n) (
-          rw (le-ltb (h .cells) 1 (hr .some), le-ltb 256 (h .cells) (hr .most), le-ltb 30 (h .delays) (hr .few)) u,
-          many-length (h .cells) soilForm s (d .next) n,
-          mr .fits,
-        )
+card-given s e =
+    let g = all-good s e in
+    let h = countsIn s in
+    let d = depthsIn s in
+    let hr = head-one s (g .0) in
+    let dr = depths-one (h .delays) s (h .next) (hr .room) (g .1) in
+    let mr = many-one (h .cells) soilForm s (d .next) refl (dr .room) (g .2) in
+    let u : allZero (drop (h .delays) (map wordOf (sets (replicate 30 (pos 0)) 0 (d .vals)))) ≡ true = rw (dr .count) at (unused-zero (d .vals) (omega (arith, dr .count, hr .few))) in
+    rw (g .0, g .1, g .2) (
+      rw (le-ltb (h .cells) 1 (hr .some), le-ltb 256 (h .cells) (hr .most), le-ltb 30 (h .delays) (hr .few)) u,
+      many-length (h .cells) soilForm s (d .next) (g .2),
+      mr .fits,
+    )
 
 -- the card and soil numbers that were read, written into a buffer with room, stand there as the very bytes that were taken
 pub card-again : (s b : List ℕ) → parse s .line ≡ 0 → length (take (parse s .next) s) ≤ length b → (w : Written) (after : List ℕ) → Wrote (parse s .card) (parse s .soil) b w after

@@ -4,24 +4,19 @@ use mathlib.Core.List.{List, [], _∷_}
 use Prim.Native.Nat.{ℕ}
 use Prim.Native.String.{String}
 use lib.IntN.{ℤ, pos, negsuc}
-use lib.Ieee.{binary32, ofBits, toBits}
-use lib.ListN.{length, replicate}
-use Rattle.head.specs.Pattern.{carriedOf, patternOf}
+use lib.ListN.{replicate}
+use Rattle.head.specs.Pattern.{carriedOf}
 use Rattle.form.specs.Bytes.{bytes}
 use Rattle.form.specs.Dec.{dec, decF, numAt, numStart, numGo}
 use Rattle.form.specs.Hex.{hex, hexAt, hexGo}
 use Rattle.form.specs.Form.{byteAt, valAt, valText, formAt, formText}
 use Rattle.form.specs.Many.{manyAt, rowsText}
-use Rattle.cell.specs.declared.Amounts.{Amounts}
-use Rattle.cell.specs.declared.Answer.{Answer}
 use Rattle.cell.specs.declared.Answer.the-variants.{Accepted, Refused}
 use Rattle.cell.specs.declared.Card.{Card}
-use Rattle.cell.specs.declared.Reading.{Reading}
 use Rattle.cell.specs.declared.Refusal.the-variants.{Old}
 use Rattle.cell.specs.Water.{water, net}
-use Rattle.site.specs.declared.Sheet.{Sheet}
-use Rattle.text.specs.Readings.{readReading, textOf}
-use Rattle.text.specs.Cards.{parse, countsOf, rangeCounts, depthsAt, cardText, Parsed}
+use Rattle.text.specs.Readings.{readReading}
+use Rattle.text.specs.Cards.{parse, countsOf, rangeCounts, depthsAt, cardText}
 use Rattle.text.specs.Printed.{answerText, sheetText}
 
 -- the card

@@ -1,7 +1,7 @@
 -- Laws of readings as text: what was written is read back, and each reading has one text. Assumes nothing.
 use mathlib.Core.Path.{_≡_, refl, sym, ap, _∙_}
-use mathlib.Core.List.{List, [], _∷_, _++_, map}
-use mathlib.Core.Bool.{Bool, true, false, cond, false≢true}
+use mathlib.Core.List.{List, [], _++_, map}
+use mathlib.Core.Bool.{Bool, true, false}
 use Prim.Native.Nat.{ℕ, _+_, _≤_, _<_}
 use native.Mathlib.Omega.{arith}
 use lib.ListN.{length, take, drop, getD}
@@ -11,18 +11,17 @@ use borrow.Author.Tests.{le-leb, lt-leb, lt-ltb}
 use Rattle.text.specs.declared.Written.{Written}
 use lib.IntN.{ℤ, pos}
 use lib.Ieee.{binary32, fits as floatFits}
-use Rattle.head.specs.declared.Carried.{Carried}
-use Rattle.head.specs.Pattern.{patternOf, carriedOf}
+use Rattle.head.specs.Pattern.{patternOf}
 use Rattle.head.specs.PatternLaws.{there-and-back, pattern-lt, same-again}
 use Rattle.form.specs.declared.line.Taken.{Taken}
 use Rattle.cell.specs.declared.Reading.{Reading}
 use Rattle.text.specs.declared.reading.ReadingRead.{ReadingRead}
 use Rattle.form.specs.Put.{sets-all}
-use Rattle.form.specs.Form.{Out, formAt, formText, takenOf, okVals}
-use Rattle.form.specs.FormLaws.{FormRead, form-one, form-back, ok-length, parted, read, cells-take, ok-words, unword, small-oks, and-i}
+use Rattle.form.specs.Form.{formAt, formText, takenOf, okVals}
+use Rattle.form.specs.FormLaws.{FormRead, form-one, form-back, ok-length, read, cells-take, ok-words, unword, small-oks, and-i}
 use Rattle.text.specs.Lines.{readingForm}
 use Rattle.form.specs.Words.{wordOf, word-lt}
-use Rattle.text.specs.Readings.{valsOf, fieldsOf, textOf, readReading, resultOf, carried, readAgain, Same}
+use Rattle.text.specs.Readings.{valsOf, fieldsOf, textOf, readReading, carried, readAgain, Same}
 use Rattle.text.specs.Written.{writtenOf, bufferOf}
 
 -- a line that stands at the start of s

@@ -1,11 +1,9 @@
 -- Readings as text: what reading one finds, and its one text. Definitions only.
 use Prim.Native.Nat.{ℕ}
 use mathlib.Core.Path.{_≡_}
-use mathlib.Core.List.{List, [], _∷_, _++_}
+use mathlib.Core.List.{List, [], _∷_}
 use mathlib.Core.Bool.{cond}
-use lib.ListN.{getD, length, drop}
-use lib.Dec.{leb}
-use Rattle.text.specs.declared.Written.{Written}
+use lib.ListN.{getD}
 use lib.IntN.{ℤ, pos}
 use Rattle.head.specs.declared.Carried.{Carried}
 use Rattle.head.specs.Pattern.{patternOf, carriedOf}

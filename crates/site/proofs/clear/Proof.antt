@@ -1,5 +1,5 @@
 -- `site::clear` meets its contract. Assumes nothing.
-use mathlib.Core.Path.{_≡_, refl, sym, ap, _∙_}
+use mathlib.Core.Path.{sym, _∙_}
 use borrow.Author.Tests.{not-true, not-false, eq-eqb, ne-eqb}
 use Rattle.site.specs.Site.{rowsFit}
 use Rattle.site.specs.SiteLaws.{clear-card, clear-long, clear-done}

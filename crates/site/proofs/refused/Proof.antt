@@ -1,5 +1,5 @@
 -- `site::refused` meets its contract. Assumes nothing.
-use mathlib.Core.Path.{_≡_, refl, sym, ap, _∙_}
+use mathlib.Core.Path.{sym, _∙_}
 use borrow.Author.Needs.{needs}
 use Rattle.site.proofs.refused.Statement.{statement}
 use Rattle.site.proofs.refused.Tie as tie

@@ -1,10 +1,9 @@
 -- `site::step` meets its contract. Refused by check 2 or 3, or what the named row gives, put back in its place. Assumes nothing.
 use native.Mathlib.Omega.{arith}
-use mathlib.Core.Path.{_≡_, refl, sym, ap, _∙_}
-use mathlib.Core.Bool.{Bool, true, false, _&&_}
+use mathlib.Core.Path.{_≡_, sym, ap, _∙_}
+use mathlib.Core.Bool.{true, false, _&&_}
 use mathlib.Core.List.{List, _++_}
 use Prim.Native.Nat.{ℕ, _+_, _-_, _*_, _≤_, _<_}
-use native.Mathlib.Nat.{mul-le-mul-left}
 use borrow.Author.Tests.{eq-eqb, ne-eqb, lt-ltb, le-ltb}
 use borrow.Rule.Slice.PartMut.{putMid, post-is}
 use lib.IntN.{ℤ}
@@ -12,7 +11,7 @@ use lib.ListN.{length, take, drop}
 use Rattle.cell.specs.declared.Answer.{Answer}
 use Rattle.cell.specs.declared.Card.{Card}
 use Rattle.cell.specs.declared.Reading.{Reading}
-use Rattle.cell.specs.Step.{StepGives, newRow}
+use Rattle.cell.specs.Step.{StepGives}
 use Rattle.site.specs.Rows.{partAt, putAt}
 use Rattle.site.specs.Site.{soilFits, rowsFit, cellFits, SiteGives}
 use Rattle.site.specs.SiteLaws.{lengths-bad, cell-bad, reached, rows-reached, refused-gives}

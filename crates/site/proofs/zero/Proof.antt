@@ -1,9 +1,9 @@
 -- `site::zero` meets its contract. What is done is filled with zeros, the rest is as it was. Assumes nothing.
 use native.Mathlib.Omega.{arith}
 use borrow.Author.Needs.{needs}
-use mathlib.Core.Path.{_≡_, refl, sym, ap, _∙_}
-use mathlib.Core.List.{List, _++_, append-nil}
-use Prim.Native.Nat.{ℕ, _≤_, _-_}
+use mathlib.Core.Path.{_≡_, _∙_}
+use mathlib.Core.List.{_++_, append-nil}
+use Prim.Native.Nat.{_≤_, _-_}
 use borrow.Author.Fill.{fill-more}
 use lib.ListN.{length, drop, replicate, length-set, drop-of-length-le}
 use Rattle.site.proofs.zero.Statement.{statement}

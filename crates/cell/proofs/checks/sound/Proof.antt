@@ -1,10 +1,5 @@
 -- `cell::checks::sound` meets its contract. Assumes nothing.
-use mathlib.Core.Path.{_≡_, refl, sym, ap, _∙_}
-use native.Mathlib.Nat.{le-of-eq}
-use lib.IntN.{natAbs}
 use Rattle.head.specs.LevelLaws.{level-small}
-use Rattle.cell.specs.declared.checks.Verdict.the-variants.{Fine}
-use Rattle.cell.specs.Depth.{depthOf}
 use Rattle.cell.specs.Refusals.{sounded}
 use borrow.Author.Needs.{needs}
 use Rattle.cell.proofs.checks.sound.Statement.{statement}

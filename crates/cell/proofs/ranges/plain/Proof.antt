@@ -9,7 +9,6 @@ use lib.Signed.{leZ, nonNeg}
 use mir.Syntax.{w64}
 use mir.Val.{Fits, SFits}
 use mir.Facts.{toZ-ofZ}
-use borrow.Author.Needs.{needs}
 use Rattle.cell.proofs.ranges.plain.Statement.{statement}
 use Rattle.cell.proofs.ranges.plain.Tie as tie
 

@@ -1,9 +1,9 @@
 -- `cell::ranges::soil_of` meets its contract. Assumes nothing.
 use native.Mathlib.Omega.{arith}
-use mathlib.Core.Path.{_≡_, refl, sym, ap, _∙_}
+use mathlib.Core.Path.{_≡_}
 use mathlib.Core.Bool.{true}
-use Prim.Native.Nat.{ℕ, _<_, _^_}
-use borrow.Author.Needs.{needs, sfits-of}
+use Prim.Native.Nat.{_<_, _^_}
+use borrow.Author.Needs.{sfits-of}
 use lib.IntN.{ℤ, pos}
 use lib.Signed.{leZ, mag}
 use lib.ListN.{getD}

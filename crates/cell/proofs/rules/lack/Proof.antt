@@ -1,12 +1,10 @@
 -- `cell::rules::lack` meets its contract. Assumes nothing.
 use native.Mathlib.Omega.{arith}
-use mathlib.Core.Path.{_≡_, refl, sym, _∙_}
-use mathlib.Core.Path.{ap}
+use mathlib.Core.Path.{_≡_}
 use Prim.Native.Nat.{ℕ, _+_, _≤_, max}
 use Rattle.cell.specs.declared.Depth.{Depth}
 use Rattle.cell.specs.RuleLaws.{lack-le, lack-most}
 use Rattle.cell.specs.Rules.{lackOf}
-use Rattle.cell.proofs.Fits.{tests}
 use borrow.Author.Needs.{needs}
 use Rattle.cell.proofs.rules.lack.Statement.{statement}
 use Rattle.cell.proofs.rules.lack.Tie as tie

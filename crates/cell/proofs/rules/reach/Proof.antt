@@ -1,5 +1,5 @@
 -- `cell::rules::reach` meets its contract. After k turns the loop has found the delay among the first k depths. Assumes nothing.
-use mathlib.Core.Path.{_≡_, refl, sym, _∙_}
+use mathlib.Core.Path.{_≡_, refl}
 use mathlib.Core.Logic.{⊎-elim}
 use Prim.Native.Nat.{_-_, _≤_}
 use lib.ListN.{length}

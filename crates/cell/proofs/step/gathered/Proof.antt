@@ -1,5 +1,5 @@
 -- `cell::step::gathered` meets its contract. Assumes nothing.
-use mathlib.Core.Path.{_≡_, refl, sym, ap, _∙_}
+use mathlib.Core.Path.{refl}
 use Rattle.cell.specs.Parts.{gatheredOf}
 use borrow.Author.Needs.{needs}
 use Rattle.cell.proofs.step.gathered.Statement.{statement}

@@ -1,6 +1,6 @@
 -- `cell::step::settle` meets its contract. Each call gives its rule, and the rules put together are the definition. Assumes nothing.
-use mathlib.Core.Path.{_≡_, refl, sym, ap, _∙_}
-use Prim.Native.Nat.{ℕ, _+_, _-_}
+use mathlib.Core.Path.{_≡_}
+use Prim.Native.Nat.{ℕ, _-_}
 use lib.IntN.{ℤ}
 use Rattle.cell.specs.declared.Depth.{Depth}
 use Rattle.cell.specs.declared.Reading.{Reading}

@@ -1,7 +1,7 @@
 -- `cell::step::turn` meets its contract. Each call is handed what it asks, and the calls together are the step. Assumes nothing.
 use lib.ListN.{length}
 use Rattle.cell.specs.Step.{queueAfter}
-use mathlib.Core.Path.{_≡_, refl, sym, ap, _∙_}
+use mathlib.Core.Path.{_≡_, ap, _∙_}
 use Rattle.cell.proofs.Parts.{lack-small, settling, joining, queue-is, left-small, amounts-are}
 use Rattle.cell.specs.StepLaws.{after-length}
 use borrow.Author.Needs.{needs}

@@ -1,5 +1,5 @@
 -- `cell::step::wet` meets its contract. Each call gives its rule, and the rules put together are the definition. Assumes nothing.
-use mathlib.Core.Path.{_≡_, refl, sym, ap, _∙_}
+use mathlib.Core.Path.{_≡_}
 use Prim.Native.Nat.{ℕ, _+_, _-_}
 use Rattle.cell.specs.declared.Card.{Card}
 use Rattle.cell.specs.declared.Depth.{Depth}

@@ -1,7 +1,5 @@
 use Rattle.form.specs.DecLaws.{len-small, len-more, put-small, put-more}
 use lib.ListN.{length-set}
-use mathlib.Core.Path.{_∙_}
-use borrow.Author.Needs.{needs}
 use native.Mathlib.Omega.{arith}
 use Prim.Native.Nat.{ℕ, _<_}
 use borrow.Fn.Kinds.{In}

@@ -1,11 +1,10 @@
 -- `form::number` meets its contract. The invariant: what is read from the start is what is read from here on, with v so far.
 -- The measure is what is left of the slice. Assumes nothing.
-use mathlib.Core.Path.{_≡_, refl, sym, _∙_}
-use Prim.Native.Nat.{_≤_, _*_, _-_, _+_, _<_}
+use mathlib.Core.Path.{_≡_, sym, _∙_}
+use Prim.Native.Nat.{_≤_, _-_}
 use native.Mathlib.Omega.{arith}
 use borrow.Author.Needs.{needs}
 use lib.ListN.{length, drop}
-use denote.Ref.{now}
 use Rattle.form.specs.Dec.{numAt, numGo}
 use Rattle.form.proofs.Digits.{start-end, start-stop, start-more, go-end, go-stop, go-zero, go-over, go-more}
 use Rattle.form.proofs.decimal.number.Statement.{statement}

@@ -1,10 +1,8 @@
 -- `form::size` meets its contract: a number below 0 is `negsuc n`, and -1 less it is n. Assumes nothing.
-use mathlib.Core.Path.{_≡_, refl}
-use mathlib.Core.Bool.{true, false}
+use mathlib.Core.Path.{_≡_}
 use Prim.Native.Nat.{ℕ, _<_, _^_}
 use native.Mathlib.Omega.{arith}
 use lib.IntN.{pos, negsuc}
-use lib.Signed.{ltZ}
 use mir.Facts.{toZ-pos, toZ-ofZ}
 use mir.Syntax.{w64}
 use Rattle.form.specs.Signed.{sub-one, below-zero, not-below}

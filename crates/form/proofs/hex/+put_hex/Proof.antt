@@ -1,7 +1,6 @@
 use Rattle.form.specs.HexLaws.{hex-last, hex-none}
 use lib.ListN.{length-set}
 use Prim.Native.Nat.{_-_}
-use mathlib.Core.Path.{_≡_, refl, sym, _∙_}
 use native.Mathlib.Omega.{arith}
 use borrow.Author.Needs.{needs}
 use Prim.Native.Nat.{ℕ, _<_}

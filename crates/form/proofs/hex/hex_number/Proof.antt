@@ -1,10 +1,10 @@
 -- `form::hex::hex_number` meets its contract. Assumes nothing.
 use native.Mathlib.Numerals.{add-one}
 use mathlib.Core.Path.{_≡_, refl, sym, _∙_}
-use Prim.Native.Nat.{_≤_, _*_, _-_, _+_, _<_, _^_}
+use Prim.Native.Nat.{_≤_, _-_, _+_, _<_, _^_}
 use native.Mathlib.Omega.{arith}
 use borrow.Author.Needs.{needs}
-use lib.ListN.{length, drop}
+use lib.ListN.{drop}
 use Rattle.form.specs.Hex.{hexAt, hexGo}
 use Rattle.form.specs.HexLaws.{pow-8}
 use Rattle.form.proofs.Digits.{hex-end, hex-stop, hex-more, hex-done}

@@ -1,15 +1,14 @@
 -- `form::line::form_fits` meets its contract. Assumes nothing.
 use native.Mathlib.Omega.{arith}
 use borrow.Author.Needs.{needs}
-use mathlib.Core.Path.{_≡_, refl, sym, ap, _∙_}
+use mathlib.Core.Path.{_≡_, refl, sym, _∙_}
 use mathlib.Core.Bool.{true, false}
 use denote.Ref.{now}
-use Prim.Native.Nat.{ℕ, suc, _≤_, _*_, _-_, _+_}
+use Prim.Native.Nat.{suc, _≤_, _-_, _+_}
 use lib.ListN.{length, drop, getD}
 use lib.IntN.{pos}
 use mir.Val.{toZ, ofZ}
 use mir.Syntax.{w64}
-use mir.Facts.{toZ-ofZ}
 use Rattle.form.specs.Form.{marks, isMark, fits}
 use Rattle.form.proofs.Digits.{marks-mark, marks-lit, fits-end, fits-yes, fits-no, fits-lit}
 use Rattle.form.proofs.line.form_fits.Statement.{statement}

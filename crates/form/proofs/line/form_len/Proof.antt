@@ -5,10 +5,9 @@ use native.Mathlib.Omega.{arith}
 use borrow.Author.Needs.{needs}
 use mathlib.Core.Bool.{true, false}
 use mathlib.Core.Path.{_≡_, ap, sym, _∙_, refl}
-use mathlib.Core.List.{List, _∷_, _++_}
-use Prim.Native.Nat.{ℕ, _≤_, _-_, _+_, _*_, suc}
-use native.Mathlib.Numerals.{add-one}
-use lib.ListN.{length, drop, getD, length-set, length-append}
+use mathlib.Core.List.{_∷_, _++_}
+use Prim.Native.Nat.{_≤_, _-_, _+_, _*_, suc}
+use lib.ListN.{length, drop, getD, length-append}
 use lib.IntN.{pos}
 use denote.Ref.{now}
 use Rattle.form.specs.Form.{marks, formText, valText, isMark}

@@ -5,8 +5,8 @@ use native.Mathlib.Omega.{arith}
 use borrow.Author.Needs.{needs}
 use mathlib.Core.Bool.{true, false}
 use mathlib.Core.Path.{_≡_, ap, sym, _∙_, refl}
-use mathlib.Core.List.{List, _∷_, _++_}
-use Prim.Native.Nat.{ℕ, _≤_, _-_, _+_, _*_, suc}
+use mathlib.Core.List.{_∷_, _++_}
+use Prim.Native.Nat.{_≤_, _-_, _+_, suc}
 use native.Mathlib.Numerals.{add-one}
 use lib.ListN.{length, drop, getD, length-set, length-append}
 use lib.IntN.{pos}
@@ -14,7 +14,7 @@ use denote.Ref.{now}
 use Rattle.form.specs.Form.{marks, formText, valText, isMark}
 use Rattle.form.proofs.Digits.{marks-mark, marks-lit, text-mark, text-lit, text-end}
 use lib.Seq.{sets}
-use Rattle.form.specs.Put.{sets-append, sets-step}
+use Rattle.form.specs.Put.{sets-step}
 use Rattle.form.proofs.line.put_form.Statement.{statement}
 use Rattle.form.proofs.line.put_form.Tie as tie
 

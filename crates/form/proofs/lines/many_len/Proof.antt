@@ -1,7 +1,6 @@
 -- `form::lines::many_len` meets its contract. Assumes nothing.
 use native.Mathlib.Omega.{arith}
-use borrow.Author.Needs.{needs}
-use mathlib.Core.Path.{_≡_, refl, sym, ap, _∙_}
+use mathlib.Core.Path.{ap, _∙_}
 use denote.Ref.{now}
 use Prim.Native.Nat.{ℕ, _≤_, _*_, _-_, _+_}
 use Rattle.form.proofs.PutRows.{Len, len-begin, len-room, len-turn, len-done}

@@ -1,9 +1,7 @@
 -- `form::lines::put_many` meets its contract. Assumes nothing.
 use native.Mathlib.Omega.{arith}
-use borrow.Author.Needs.{needs}
-use mathlib.Core.Path.{_≡_, refl, sym, ap, _∙_}
 use denote.Ref.{now}
-use Prim.Native.Nat.{ℕ, _≤_, _*_, _-_, _+_}
+use Prim.Native.Nat.{_-_}
 use Rattle.form.proofs.PutRows.{Put, put-begin, put-turn, put-done, len-room, len-fits}
 use Rattle.form.proofs.lines.put_many.Statement.{statement}
 use Rattle.form.proofs.lines.put_many.Tie as tie

@@ -1,15 +1,10 @@
 -- `form::lines::rows_fit` meets its contract. Assumes nothing.
 use native.Mathlib.Omega.{arith}
 use borrow.Author.Needs.{needs}
-use mathlib.Core.Path.{_≡_, refl, sym, ap, _∙_}
-use mathlib.Core.Bool.{true, false}
+use mathlib.Core.Path.{_≡_, sym, _∙_}
 use denote.Ref.{now}
-use Prim.Native.Nat.{ℕ, suc, _≤_, _*_, _-_, _+_}
-use lib.ListN.{length, drop, getD}
-use lib.IntN.{pos}
-use mir.Val.{toZ, ofZ}
-use mir.Syntax.{w64}
-use mir.Facts.{toZ-ofZ}
+use Prim.Native.Nat.{_≤_, _*_, _-_, _+_}
+use lib.ListN.{length, drop}
 use Rattle.form.proofs.Digits.{rowsfit-end, rowsfit-yes, rowsfit-no}
 use Rattle.form.proofs.lines.rows_fit.Statement.{statement}
 use Rattle.form.proofs.lines.rows_fit.Tie as tie

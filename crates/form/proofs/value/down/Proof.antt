@@ -1,11 +1,9 @@
 -- `form::value::down` meets its contract. Assumes nothing.
 use Rattle.form.proofs.Digits.{neg-suc}
-use Rattle.form.specs.declared.value.Val.the-variants.{Got}
 use native.Mathlib.Omega.{arith}
-use mathlib.Core.Path.{_≡_, ap, sym, _∙_}
+use mathlib.Core.Path.{_≡_}
 use mir.Val.{toZ, ofZ}
 use mir.Syntax.{w64}
-use lib.IntN.{ℤ}
 use borrow.Author.Needs.{needs}
 use Rattle.form.proofs.value.down.Statement.{statement}
 use Rattle.form.proofs.value.down.Tie as tie

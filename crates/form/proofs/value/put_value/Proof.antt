@@ -1,6 +1,6 @@
 -- `form::value::put_value` meets its contract. Assumes nothing.
 use native.Mathlib.Omega.{arith}
-use mathlib.Core.Path.{_≡_, ap, sym, _∙_, refl}
+use mathlib.Core.Path.{ap, sym, _∙_}
 use lib.ListN.{length, length-set}
 use native.Mathlib.Numerals.{add-one}
 use mir.Facts.{toZ-ofZ}

@@ -1,10 +1,7 @@
 -- `form::value::value` meets its contract. Assumes nothing.
 use Rattle.form.proofs.Digits.{val-dec, val-neg, val-pos, val-hex}
 use native.Mathlib.Omega.{arith}
-use mathlib.Core.Path.{_≡_, ap, sym, _∙_}
 use Rattle.form.proofs.Digits.{at-most, hex-most, byte-below}
-use Rattle.form.specs.Form.{valAt, posOf, negOf}
-use borrow.Author.Tests.{eq-eqb, ne-eqb}
 use borrow.Author.Needs.{needs}
 use Rattle.form.proofs.value.value.Statement.{statement}
 use Rattle.form.proofs.value.value.Tie as tie

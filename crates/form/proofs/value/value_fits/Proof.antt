@@ -1,13 +1,6 @@
 -- `form::value::value_fits` meets its contract. Assumes nothing.
-use native.Mathlib.Omega.{arith}
-use mathlib.Core.Path.{_≡_, refl, sym, ap, _∙_}
-use mathlib.Core.Bool.{true, false}
-use denote.Ref.{now}
-use Prim.Native.Nat.{ℕ, suc, _≤_, _*_, _-_, _+_}
-use lib.ListN.{length, drop, getD}
-use lib.IntN.{pos}
-use mir.Val.{toZ, ofZ}
-use mir.Syntax.{w64}
+use mathlib.Core.Path.{sym, ap, _∙_}
+use Prim.Native.Nat.{ℕ, _-_}
 use mir.Facts.{toZ-ofZ}
 use Rattle.form.proofs.Digits.{ok-signed, ok-neg, ok-pos}
 use lib.Dec.{ltb}

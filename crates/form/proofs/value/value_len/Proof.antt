@@ -1,13 +1,9 @@
 -- `form::value::value_len` meets its contract. Assumes nothing.
 use mir.Facts.{toZ-ofZ}
 use native.Mathlib.Omega.{arith}
-use mathlib.Core.Path.{_≡_, ap, sym, _∙_, refl}
+use mathlib.Core.Path.{ap, sym, _∙_}
 use lib.ListN.{length}
-use denote.Ref.{now}
-use Rattle.form.specs.FormLaws.{text-hex, text-neg, text-pos, len-hex, len-val}
-use Rattle.form.specs.DecLaws.{len-20}
-use Rattle.form.specs.Signed.{size-fits}
-use Rattle.form.specs.Form.{valText}
+use Rattle.form.specs.FormLaws.{text-neg, text-pos, len-hex, len-val}
 use Prim.Native.Nat.{ℕ}
 use Rattle.form.specs.Dec.{dec}
 use borrow.Author.Needs.{needs}

@@ -1,9 +1,7 @@
 -- `form::value::word` meets its contract. Assumes nothing.
-use lib.IntN.{natAbs}
 use native.Mathlib.Omega.{arith}
-use mathlib.Core.Path.{_≡_, sym, _∙_}
+use mathlib.Core.Path.{sym, _∙_}
 use mir.Facts.{toZ-ofZ}
-use Prim.Native.Nat.{_<_, _≤_}
 use Rattle.form.specs.Words.{word-neg, word-big, word-small}
 use borrow.Author.Needs.{needs}
 use Rattle.form.proofs.value.word.Statement.{statement}

@@ -1,9 +1,7 @@
 -- `site::Sheet::add` meets its contract. Assumes nothing.
-use mathlib.Core.Path.{_≡_, refl, sym, ap, _∙_}
-use mathlib.Core.Bool.{true, false}
+use mathlib.Core.Path.{sym, ap, _∙_}
 use borrow.Author.Tests.{not-true, not-false}
-use Rattle.cell.specs.declared.Answer.the-variants.{Accepted, Refused}
-use Rattle.site.specs.Sheet.{addable, plusOf, addedOf}
+use Rattle.site.specs.Sheet.{addable}
 use Rattle.site.specs.SheetLaws.{takes-in, added-taken, added-refused}
 use borrow.Author.Needs.{needs}
 use Rattle.site.proofs.Sheet.add.Statement.{statement}

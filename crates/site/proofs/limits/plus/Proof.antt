@@ -1,12 +1,12 @@
 -- `site::limits::plus` meets its contract. Assumes nothing.
-use Prim.Native.Nat.{ℕ, _+_, _*_, _≤_}
+use Prim.Native.Nat.{_+_, _*_, _≤_}
 use lib.IntN.{ℤ, natAbs, _+ℤ_}
 use mir.Syntax.{w64}
 use mir.Val.{SFits}
 use Rattle.cell.specs.Bounds.{abs-add}
 use Rattle.cell.proofs.Fits.{bits, sfits, back}
 use native.Mathlib.Omega.{arith}
-use mathlib.Core.Path.{_≡_, refl, sym, ap, _∙_}
+use mathlib.Core.Path.{_≡_}
 use Rattle.site.specs.Sheet.{plusOf}
 use Rattle.site.specs.SheetLaws.{Takes, takes-in}
 use Rattle.site.proofs.limits.plus.Statement.{statement}

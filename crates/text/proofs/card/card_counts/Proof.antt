@@ -1,7 +1,5 @@
 -- `text::card::card_counts` meets its contract. Assumes nothing.
-use native.Mathlib.Omega.{arith}
-use mathlib.Core.Path.{_≡_, refl, sym, ap, _∙_}
-use denote.Ref.{now}
+use mathlib.Core.Path.{refl}
 use borrow.Author.Needs.{needs}
 use Rattle.text.proofs.card.card_counts.Statement.{statement}
 use Rattle.text.proofs.card.card_counts.Tie as tie

@@ -1,6 +1,5 @@
 -- `text::card::card_depths` meets its contract. Assumes nothing.
 use native.Mathlib.Omega.{arith}
-use mathlib.Core.Path.{_≡_, refl, sym, ap, _∙_}
 use denote.Ref.{now}
 use Rattle.form.proofs.Digits.{byte-below}
 use borrow.Author.Needs.{needs}

@@ -1,12 +1,11 @@
 -- `text::card::copy_values` meets its contract. Assumes nothing.
 use native.Mathlib.Omega.{arith}
 use borrow.Author.Needs.{needs}
-use mathlib.Core.Path.{_≡_, refl, sym, ap, _∙_}
+use mathlib.Core.Path.{_≡_, refl, _∙_}
 use denote.Ref.{now}
 use Prim.Native.Nat.{_≤_, _-_}
-use native.Mathlib.Nat.{le-antisymm}
 use mathlib.Core.List.{_++_}
-use lib.ListN.{length, take, drop, getD, set, length-set}
+use lib.ListN.{length, take, drop, getD, length-set}
 use lib.IntN.{pos}
 use mir.Val.{toZ, ofZ}
 use mir.Syntax.{w64}

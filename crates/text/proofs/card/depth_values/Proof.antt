@@ -1,15 +1,12 @@
 -- `text::card::depth_values` meets its contract. Assumes nothing.
 use native.Mathlib.Omega.{arith}
 use borrow.Author.Needs.{needs}
-use mathlib.Core.Path.{_≡_, refl, sym, ap, _∙_}
-use mathlib.Core.Bool.{true, false}
+use mathlib.Core.Path.{_≡_, refl, sym, _∙_}
 use denote.Ref.{now}
-use Prim.Native.Nat.{ℕ, suc, _≤_, _*_, _-_, _+_}
-use lib.ListN.{length, drop, getD}
+use Prim.Native.Nat.{_≤_, _-_}
+use lib.ListN.{length, drop}
 use lib.IntN.{pos}
-use mir.Val.{toZ, ofZ}
 use mir.Syntax.{w64}
-use mir.Facts.{toZ-ofZ}
 use lib.Seq.{sets}
 use mathlib.Core.List.{map}
 use lib.ListN.{length-set, length-map, drop-of-length-le}

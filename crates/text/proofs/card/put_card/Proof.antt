@@ -1,14 +1,8 @@
 -- `text::card::put_card` meets its contract. Assumes nothing.
 use native.Mathlib.Omega.{arith}
-use mathlib.Core.Path.{_≡_, refl, sym, ap, _∙_}
-use mathlib.Core.Bool.{true, false}
+use mathlib.Core.Path.{refl, _∙_}
 use denote.Ref.{now}
-use Prim.Native.Nat.{ℕ, suc, _≤_, _*_, _-_, _+_}
-use lib.ListN.{length, drop, getD}
-use lib.IntN.{pos}
-use mir.Val.{toZ, ofZ}
-use mir.Syntax.{w64}
-use mir.Facts.{toZ-ofZ}
+use Prim.Native.Nat.{_-_}
 use lib.ListN.{length-set}
 use borrow.Author.Needs.{needs}
 use Rattle.text.proofs.card.put_card.Statement.{statement}

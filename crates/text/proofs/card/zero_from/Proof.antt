@@ -1,15 +1,9 @@
 -- `text::card::zero_from` meets its contract. Assumes nothing.
-use native.Mathlib.Omega.{arith}
 use borrow.Author.Needs.{needs}
-use mathlib.Core.Path.{_≡_, refl, sym, ap, _∙_}
-use mathlib.Core.Bool.{true, false}
+use mathlib.Core.Path.{_≡_, refl, sym, _∙_}
 use denote.Ref.{now}
-use Prim.Native.Nat.{ℕ, suc, _≤_, _*_, _-_, _+_}
-use lib.ListN.{length, drop, getD}
-use lib.IntN.{pos}
-use mir.Val.{toZ, ofZ}
-use mir.Syntax.{w64}
-use mir.Facts.{toZ-ofZ}
+use Prim.Native.Nat.{_-_}
+use lib.ListN.{length, drop}
 use Rattle.text.proofs.Zeros.{zero-end, zero-yes, zero-no}
 use Rattle.text.proofs.card.zero_from.Statement.{statement}
 use Rattle.text.proofs.card.zero_from.Tie as tie

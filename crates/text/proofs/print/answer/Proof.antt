@@ -1,12 +1,8 @@
 -- `text::print::answer` meets its contract. Assumes nothing.
-use mathlib.Core.Path.{_≡_, refl, sym, ap, _∙_}
+use mathlib.Core.Path.{_≡_, sym, ap, _∙_}
 use mathlib.Core.Bool.{true, false}
 use borrow.Author.Tests.{not-true, not-false}
-use mathlib.Core.List.{List}
-use Prim.Native.Nat.{ℕ}
-use Rattle.form.specs.Form.{formText}
-use Rattle.text.specs.Lines.{answerForm, sheetForm}
-use Rattle.text.specs.Printed.{answerVals, answerText, amountsPrintable, Prints}
+use Rattle.text.specs.Printed.{answerText, amountsPrintable}
 use borrow.Author.Needs.{needs}
 use Rattle.text.proofs.print.answer.Statement.{statement}
 use Rattle.text.proofs.print.answer.Tie as tie

@@ -1,8 +1,8 @@
 -- `text::print::sheet` meets its contract. Assumes nothing.
-use mathlib.Core.Path.{_≡_, refl, sym, ap, _∙_}
+use mathlib.Core.Path.{_≡_, sym, _∙_}
 use mathlib.Core.Bool.{true, false}
 use borrow.Author.Tests.{not-true, not-false}
-use Rattle.text.specs.Printed.{sheetText, sheetPrintable, Prints}
+use Rattle.text.specs.Printed.{sheetText, sheetPrintable}
 use borrow.Author.Needs.{needs}
 use Rattle.text.proofs.print.sheet.Statement.{statement}
 use Rattle.text.proofs.print.sheet.Tie as tie

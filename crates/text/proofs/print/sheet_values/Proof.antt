@@ -1,5 +1,4 @@
 -- `text::print::sheet_values` meets its contract. Assumes nothing.
-use mathlib.Core.Path.{_≡_, refl, sym, ap, _∙_}
 use Prim.Native.Nat.{ℕ, _<_, _^_}
 use lib.ListN.{getD}
 use mir.Syntax.{w64}

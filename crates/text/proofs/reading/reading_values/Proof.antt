@@ -1,6 +1,5 @@
 -- `text::reading::reading_values` meets its contract. Assumes nothing.
 use native.Mathlib.Omega.{arith}
-use mathlib.Core.Path.{_≡_, refl, sym, ap, _∙_}
 use mir.Syntax.{w64}
 use mir.Facts.{toZ-pos}
 use borrow.Author.Needs.{needs}

@@ -1,5 +1,4 @@
 -- `text::reading::to_reading` meets its contract. Assumes nothing.
-use mathlib.Core.Path.{_≡_, refl, sym, ap, _∙_}
 use borrow.Author.Needs.{needs}
 use Rattle.text.proofs.reading.to_reading.Statement.{statement}
 use Rattle.text.proofs.reading.to_reading.Tie as tie
