@@ -15,18 +15,20 @@ use Rattle.head.specs.declared.Head.the-variants.{Level, Dry, Inactive, Unusabl
 use Rattle.head.specs.Class.{classOf}
 use Rattle.head.specs.Level.{levelUm}
 use Rattle.head.specs.LevelLaws.{level-small}
+use Rattle.cell.specs.declared.Answer.{Answer}
+use Rattle.cell.specs.declared.Answer.the-variants.{Accepted, Refused}
 use Rattle.cell.specs.declared.Card.{Card}
 use Rattle.cell.specs.declared.Depth.{Depth}
 use Rattle.cell.specs.declared.Reading.{Reading}
 use Rattle.cell.specs.declared.Refusal.{Refusal}
-use Rattle.cell.specs.declared.Refusal.the-variants.{BadCard}
+use Rattle.cell.specs.declared.Refusal.the-variants.{BadCard, BadLengths, BadCell, BadSoil, BadRow, Old, Gap, BadReading, UnusableHead, InactiveHead}
 use Rattle.cell.specs.declared.checks.Verdict.{Verdict}
 use Rattle.cell.specs.declared.checks.Verdict.the-variants.{Fine, Bad}
 use Rattle.cell.specs.Parts.{Checked}
 use Rattle.cell.specs.Depth.{distance, depthOf}
 use Rattle.cell.specs.Ranges.{cardOk, soilOk, soilOf, rowOk, fieldsOk, lifeOf, nextOf}
 use Rattle.cell.specs.RangeLaws.{card-in, soil-in, fields-in}
-use Rattle.cell.specs.Refusals.{isOld, isGap, sounded, unless, verdictOf}
+use Rattle.cell.specs.Refusals.{refusalNumber, numberOf, isOld, isGap, sounded, unless, verdictOf}
 use Rattle.cell.specs.RuleLaws.{depth-le}
 
 -- ---- the checks that a reading has passed where the table stands at d
@@ -136,3 +138,20 @@ pub order-gap : (life next : ℕ) (r : Reading) → InOrder life next r → isGa
 unfolding isGap
 order-gap life next r (inl e) = simp (le-ltb next (r .count) (omega arith), le-ltb life (r .life) (omega arith), and-false)
 order-gap life next r (inr e) = simp (ne-eqb (r .life) life (λ i. omega arith), eq-eqb (r .count) 0 (e .1), and-false)
+
+-- ---- a refusal's number is at most 10
+refusal-most : (why : Refusal) → refusalNumber why ≤ 10
+refusal-most BadCard = omega arith
+refusal-most BadLengths = omega arith
+refusal-most BadCell = omega arith
+refusal-most BadSoil = omega arith
+refusal-most BadRow = omega arith
+refusal-most Old = omega arith
+refusal-most Gap = omega arith
+refusal-most BadReading = omega arith
+refusal-most UnusableHead = omega arith
+refusal-most InactiveHead = omega arith
+
+pub number-most : (answer : Answer) → numberOf answer ≤ 10
+number-most (Accepted a) = omega arith
+number-most (Refused why) = refusal-most why

@@ -2,7 +2,7 @@
 use mathlib.Core.Path.{_≡_, refl, sym, ap, _∙_}
 use mathlib.Core.List.{List, [], _∷_, _++_, map, append-assoc, append-nil}
 use mathlib.Core.Bool.{Bool, true, false, cond, _&&_, false≢true}
-use Prim.Native.Nat.{ℕ, zero, suc, _+_, _-_, _≤_, _<_}
+use Prim.Native.Nat.{ℕ, zero, suc, _+_, _-_, _≤_, _<_, _^_}
 use native.Mathlib.Nat.{add-zero, add-suc, suc-add, add-assoc}
 use native.Mathlib.Numerals.{add-one}
 use native.Mathlib.Omega.{arith}
@@ -314,13 +314,17 @@ text-pos c (negsuc n) e f = absurd (false≢true (sym f))
 pub len-hex : (c : ℕ) (z : ℤ) → c ≡ 37 → length (valText c z) ≡ 8
 len-hex c z e = rw (text-hex c z e) (hex-len 8 (natAbs z))
 
-pub len-val : (c : ℕ) (z : ℤ) → SFits w64 z → length (valText c z) ≤ 21
-len-val c z f = go (eqb c 37) refl (isNeg z) refl
+-- a value takes 21 bytes at the most where its size is below 2 ^ 64
+pub val-most : (c : ℕ) (z : ℤ) → natAbs z < 2 ^ 64 → length (valText c z) ≤ 21
+val-most c z h = go (eqb c 37) refl (isNeg z) refl
   where
     go : (b : Bool) → eqb c 37 ≡ b → (d : Bool) → isNeg z ≡ d → length (valText c z) ≤ 21
     go true e d g = omega (arith, len-hex c z (eqb-true c 37 e))
-    go false e true g = rw (text-neg c z (eqb-false c 37 e) g) (omega (arith, len-20 (natAbs z) (size-fits z f)))
-    go false e false g = rw (text-pos c z (eqb-false c 37 e) g) (omega (arith, len-20 (natAbs z) (size-fits z f)))
+    go false e true g = rw (text-neg c z (eqb-false c 37 e) g) (omega (arith, len-20 (natAbs z) h))
+    go false e false g = rw (text-pos c z (eqb-false c 37 e) g) (omega (arith, len-20 (natAbs z) h))
+
+pub len-val : (c : ℕ) (z : ℤ) → SFits w64 z → length (valText c z) ≤ 21
+len-val c z f = val-most c z (size-fits z f)
 
 -- a form has as many values as marks
 pub ok-length : (f : List ℕ) (vs : List ℤ) → okVals f vs ≡ true → length vs ≡ marks f

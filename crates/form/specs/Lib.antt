@@ -10,6 +10,7 @@ pub mod Words
 pub mod DecLaws
 pub mod HexLaws
 pub mod FormLaws
+pub mod LengthLaws
 pub mod RunLaws
 pub mod ManyLaws
 pub mod Put

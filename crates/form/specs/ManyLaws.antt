@@ -127,3 +127,13 @@ rows-front (suc n) f a b h =
       drop-append-le (marks f) a b (omega arith),
       rows-front n f (drop (marks f) a) b (length-drop (marks f) a ∙ omega arith),
     )
+
+-- no more rows are good than were asked for
+pub good-most : (n : ℕ) (f s : List ℕ) (at : ℕ) → manyAt n f s at .good ≤ n
+unfolding manyAt
+good-most zero f s at = omega arith
+good-most (suc n) f s at = go (formAt f s at .ok) refl (good-most n f s (formAt f s at .next))
+  where
+    go : (b : Bool) → formAt f s at .ok ≡ b → manyAt n f s (formAt f s at .next) .good ≤ n → manyAt (suc n) f s at .good ≤ suc n
+    go true e ih = rw e (omega arith)
+    go false e ih = rw e (omega arith)

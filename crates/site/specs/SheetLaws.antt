@@ -1,6 +1,6 @@
 -- Laws of the sheet: what an answer that can be added tells, and what a sheet holds after any list of answers. Assumes nothing.
 use mathlib.Core.Path.{_≡_, refl, sym, ap, _∙_}
-use mathlib.Core.Bool.{true, false}
+use mathlib.Core.Bool.{Bool, true, false}
 use mathlib.Core.List.{List, [], _∷_}
 use Prim.Native.Nat.{ℕ, suc, _+_, _*_, _≤_, _<_}
 use native.Mathlib.Omega.{arith}
@@ -10,12 +10,18 @@ use lib.IntN.{ℤ, pos, natAbs, _+ℤ_, +ℤ-assoc, +ℤ-idr}
 use Rattle.cell.specs.declared.Amounts.{Amounts}
 use Rattle.cell.specs.declared.Answer.{Answer}
 use Rattle.cell.specs.declared.Answer.the-variants.{Accepted, Refused}
+use Rattle.cell.specs.declared.Card.{Card}
+use Rattle.cell.specs.declared.Reading.{Reading}
 use Rattle.cell.specs.declared.Refusal.{Refusal}
 use Rattle.cell.specs.Bounds.{abs-add}
 use Rattle.cell.specs.Conj.{told}
-use Rattle.cell.specs.AnswerLaws.{AmountsIn}
+use Rattle.cell.specs.Refusals.{amountsOf}
+use Rattle.cell.specs.AnswerLaws.{AmountsIn, amounts-in}
 use Rattle.site.specs.declared.Sheet.{Sheet}
 use Rattle.site.specs.declared.Added.{Added}
+use Rattle.site.specs.Rows.{partAt}
+use Rattle.site.specs.Site.{soilWidth, rowWidth, siteAnswer}
+use Rattle.site.specs.SiteLaws.{row-answer}
 use Rattle.site.specs.Sheet.{noSteps, amountLimit, stepLimit, amountsFit, sumsWithin, addable, plusOf, sheetBy, addedOf}
 
 -- ---- the parts of the tests
@@ -255,12 +261,32 @@ sums-hold s (Refused why ∷ xs) k w l =
     let h = sums-hold s xs k w l in
     rw (none-added s (Refused why) (never-added s why)) (skipped s why xs (afterAll s xs) h)
 
+-- ---- a sheet that adding has made, whatever was added: at most 100,000,000 steps, and its sums within them
+pub record Kept (s : Sheet) : Type 0 where
+  pub steps : s .steps ≤ 100000000
+  pub sums : SumsIn (s .steps) s
+
+pub kept-none : Kept noSteps
+kept-none =
+    record {
+      steps = omega arith;
+      sums = record { inflow = omega arith; runoff = omega arith; etvad = omega arith; etstor = omega arith; etsat = omega arith; drain = omega arith; release = omega arith; stored = omega arith; recharge = omega arith };
+    }
+
+plus-kept : (s : Sheet) (a : Amounts) → Takes s a → Kept (plusOf s a)
+plus-kept s a t = record { steps = let h = steps-more s a 0 (omega (arith, t .steps)) in omega arith; sums = counted s a t }
+
+pub kept-added : (s : Sheet) (answer : Answer) → Kept s → Kept (addedOf s answer .sheet)
+kept-added s (Refused why) h = rw (none-added s (Refused why) (never-added s why)) h
+kept-added s (Accepted a) h = go (addable s (Accepted a)) refl
+  where
+    go : (b : Bool) → addable s (Accepted a) ≡ b → Kept (addedOf s (Accepted a) .sheet)
+    go true e = let t = takes-in s a e in rw (added-taken s a t) (plus-kept s a t)
+    go false e = rw (none-added s (Accepted a) e) h
+
 -- from a sheet with no step on it
 pub from-none : (xs : List Answer) → AllWithin xs → accepted xs ≤ 100000000 → Holds noSteps xs (afterAll noSteps xs)
-from-none xs w l =
-    sums-hold noSteps xs
-    (record { inflow = omega arith; runoff = omega arith; etvad = omega arith; etstor = omega arith; etsat = omega arith; drain = omega arith; release = omega arith; stored = omega arith; recharge = omega arith })
-    w (omega arith)
+from-none xs w l = sums-hold noSteps xs (kept-none .sums) w (omega arith)
 
 -- amounts of a step are within the limit
 pub step-within : (a : Amounts) → AmountsIn a → AmountsWithin a
@@ -277,3 +303,23 @@ step-within a h =
       recharge = h .recharge;
       left = omega (arith, h .left);
     }
+
+-- the amounts of whatever the site answers are within the limit
+pub site-within : (card : Card) (soil : List ℤ) (rows : List ℕ) (r : Reading) → AmountsWithin (amountsOf (siteAnswer card soil rows r))
+site-within card soil rows r = go (siteAnswer card soil rows r) refl
+  where
+    go : (x : Answer) → siteAnswer card soil rows r ≡ x → AmountsWithin (amountsOf x)
+    go (Accepted a) e = step-within a (amounts-in card (partAt soilWidth (r .cell) soil) (partAt rowWidth (r .cell) rows) r a (row-answer card soil rows r a e))
+    go (Refused why) e =
+        record {
+          inflow = omega arith;
+          runoff = omega arith;
+          etvad = omega arith;
+          etstor = omega arith;
+          etsat = omega arith;
+          drain = omega arith;
+          release = omega arith;
+          stored = omega arith;
+          recharge = omega arith;
+          left = omega arith;
+        }

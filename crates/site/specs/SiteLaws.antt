@@ -171,6 +171,16 @@ module _ (card : Card) (soil soil' : List ℤ) (rows rows' : List ℕ) (r : Read
           ∙ same-row
           ∙ sym (ap (partAt rowWidth (r .cell)) (rows-stay card soil' rows' r why (sym same-answer ∙ e)))
 
+-- clearing has three numbers
+pub clear-most : (card : Card) (rows : List ℕ) → clearNumber card rows ≤ 2
+unfolding clearNumber
+clear-most card rows = go (cardOk card) (rowsFit card rows)
+  where
+    go : (a b : Bool) → cond a (cond b 0 2) 1 ≤ 2
+    go false b = omega arith
+    go true false = omega arith
+    go true true = omega arith
+
 -- ---- a cleared site: each cell's row is 32 zeros
 pub cleared-part : (card : Card) (rows : List ℕ) → clearNumber card rows ≡ 0 → (p : ℕ) → p < card .cells → partAt rowWidth p (clearRows card rows) ≡ replicate rowWidth 0
 unfolding clearNumber clearRows rowsFit

@@ -19,7 +19,7 @@ use Rattle.form.specs.FormLaws.{form-one, form-back, ok-length, ok-words, plain
 use Rattle.form.specs.Many.{Run, manyAt, rowsText, okRows, rowsFit}
 use Rattle.form.specs.RunLaws.{many-length}
 use Rattle.form.specs.DecLaws.{stops}
-use Rattle.form.specs.ManyLaws.{many-one, many-back, ran, rows-fit, rows-front}
+use Rattle.form.specs.ManyLaws.{many-one, many-back, ran, rows-fit, rows-front, good-most}
 use Rattle.form.specs.Words.{wordOf}
 use Rattle.text.specs.Lines.{cardForm, depthForm, soilForm}
 use Rattle.text.specs.Cards.{rangeCounts, countsOf, depthsAt, parse, cardText, cardParts, allZero, given, Wrote}
@@ -146,6 +146,22 @@ module _ (s : List ℕ) where
       go true k false l z n = absurd (let q : 1 ≡ 0 = rw (k, l) at e in omega arith)
       go true k true l false n = absurd (let q : soilIn .good + 2 ≡ 0 = rw (k, l, n) at e in omega arith)
       go true k true l true n = (k, l, n)
+
+  -- a malformed line is one of the first 258
+  pub line-most : parse s .line ≤ 258
+  unfolding parse
+  line-most = go (countsIn .ok) refl (depthsIn .ok) refl (soilIn .ok) refl
+    where
+      go : (x : Bool) → countsIn .ok ≡ x → (y : Bool) → depthsIn .ok ≡ y → (z : Bool) → soilIn .ok ≡ z → parse s .line ≤ 258
+      go false k y l z n = rw k (omega arith)
+      go true k false l z n = rw (k, l) (omega arith)
+      go true k true l false n = rw (k, l, n) (omega (arith, good-most (countsIn .cells) soilForm s (depthsIn .next), head-one s k .most))
+      go true k true l true n = rw (k, l, n) (omega arith)
+
+  -- a card that is read has 256 cells at the most
+  pub cells-most : parse s .line ≡ 0 → parse s .card .cells ≤ 256
+  unfolding parse
+  cells-most e = let g = all-good e in rw (g .0, g .1, g .2) (head-one s (g .0) .most)
 
 -- what is read as a card is the card's one text
 pub card-one : (s : List ℕ) → parse s .line ≡ 0 → take (parse s .next) s ≡ cardText (parse s .card) (parse s .soil)

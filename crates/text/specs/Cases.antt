@@ -58,11 +58,15 @@ pub malformed : (number-of "cell=0 life=00 count=0 rain=50800 irrig=0 septic=100
 unfolding readReading formAt valAt byteAt numAt numStart numGo hexAt hexGo
 malformed = (refl, refl, refl, refl, refl)
 
--- what the program prints: two answers and the sheet
+-- what the program prints for them: three answers and the sheet; and a negative recharge
 pub printed : (answerText 0 (Accepted (record { inflow = water 51800; runoff = water 14287; etvad = water 2000; etstor = water 0; etsat = water 500; drain = water 0; release = water 0; stored = water 34513; recharge = net (pos 500); left = water 34513 }))
     ≡ bytes "cell=0 code=0 inflow=51800 runoff=14287 etvad=2000 etstor=0 etsat=500 drain=0 release=0 stored=34513 recharge=500 left=34513\n")
+    × (answerText 0 (Accepted (record { inflow = water 0; runoff = water 0; etvad = water 0; etstor = water 0; etsat = water 833; drain = water 0; release = water 34513; stored = water 0; recharge = net (pos 33680); left = water 0 }))
+    ≡ bytes "cell=0 code=0 inflow=0 runoff=0 etvad=0 etstor=0 etsat=833 drain=0 release=34513 stored=0 recharge=33680 left=0\n")
     × (answerText 0 (Refused Old) ≡ bytes "cell=0 code=6 inflow=0 runoff=0 etvad=0 etstor=0 etsat=0 drain=0 release=0 stored=0 recharge=0 left=0\n")
-    × (sheetText (record { steps = 2; inflow = water 51800; runoff = water 14287; etvad = water 2000; etstor = water 0; etsat = water 1333; drain = water 0; release = water 34513; stored = water 34513; recharge = net (negsuc 53999) })
-    ≡ bytes "steps=2 inflow=51800 runoff=14287 etvad=2000 etstor=0 etsat=1333 drain=0 release=34513 stored=34513 recharge=-54000\n")
+    × (sheetText (record { steps = 2; inflow = water 51800; runoff = water 14287; etvad = water 2000; etstor = water 0; etsat = water 1333; drain = water 0; release = water 34513; stored = water 34513; recharge = net (pos 34180) })
+    ≡ bytes "steps=2 inflow=51800 runoff=14287 etvad=2000 etstor=0 etsat=1333 drain=0 release=34513 stored=34513 recharge=34180\n")
+    × (sheetText (record { steps = 1; inflow = water 1000; runoff = water 0; etvad = water 0; etstor = water 0; etsat = water 5000; drain = water 50000; release = water 0; stored = water 0; recharge = net (negsuc 53999) })
+    ≡ bytes "steps=1 inflow=1000 runoff=0 etvad=0 etstor=0 etsat=5000 drain=50000 release=0 stored=0 recharge=-54000\n")
 unfolding answerText sheetText formText valText dec decF hex
-printed = (refl, refl, refl)
+printed = (refl, refl, refl, refl, refl)

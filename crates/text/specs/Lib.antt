@@ -9,3 +9,4 @@ pub mod Cases
 pub mod ReadingLaws
 pub mod CardLaws
 pub mod CardTexts
+pub mod LineLaws

@@ -1,0 +1,90 @@
+-- How much the program prints at the most. Assumes nothing.
+use mathlib.Core.Path.{_≡_, refl}
+use mathlib.Core.Bool.{Bool, true, false}
+use mathlib.Core.List.{List}
+use Prim.Native.Nat.{ℕ, zero, suc, _+_, _*_, _≤_, _<_, _^_}
+use native.Mathlib.Omega.{arith}
+use borrow.Author.Tests.{eqb-true, ltb-false}
+use lib.Dec.{eqb, ltb}
+use lib.IntN.{ℤ}
+use lib.ListN.{length, drop, length-append, length-drop}
+use Rattle.form.specs.LengthLaws.{text-most}
+use Rattle.cell.specs.declared.Card.{Card}
+use Rattle.cell.specs.declared.Answer.{Answer}
+use Rattle.site.specs.declared.Sheet.{Sheet}
+use Rattle.site.specs.Site.{siteAnswer, siteRows, clearNumber, clearRows}
+use Rattle.site.specs.SiteLaws.{clear-most}
+use Rattle.site.specs.Sheet.{noSteps, addedOf}
+use Rattle.site.specs.SheetLaws.{Kept, kept-none, kept-added, site-within}
+use Rattle.text.specs.declared.reading.ReadingRead.{ReadingRead}
+use Rattle.text.specs.Readings.{readReading}
+use Rattle.text.specs.Cards.{Parsed, parse}
+use Rattle.text.specs.CardTexts.{line-most, cells-most}
+use Rattle.text.specs.LineLaws.{reading-takes, reading-cell, answer-most, sheet-most}
+use Rattle.text.specs.Printed.{answerText}
+use Rattle.journal.specs.Book.{codeForm, codeText, malformedForm, malformedText, readingsText, freshRows, inputLimit, bookOf}
+
+-- a line that stands for a refusal
+pub malformed-most : (line : ℕ) → line < 2 ^ 64 → length (malformedText line) ≤ 35
+unfolding malformedText
+malformed-most line h = text-most malformedForm _ (h, tt)
+
+pub code-most : (number : ℕ) → number < 2 ^ 64 → length (codeText number) ≤ 27
+unfolding codeText
+code-most number h = text-most codeForm _ (h, tt)
+
+-- the readings: 5 bytes for each byte of theirs, and the last line
+pub readings-most : (n : ℕ) (card : Card) (soil : List ℤ) (rows : List ℕ) (sheet : Sheet) (line : ℕ) (s : List ℕ) → Kept sheet → line + length s < 2 ^ 64
+    → length (readingsText n card soil rows sheet line s) ≤ 5 * length s + 300
+unfolding readingsText
+readings-most zero card soil rows sheet line s k l = omega (arith, sheet-most sheet k)
+readings-most (suc n) card soil rows sheet line s k l =
+    go (eqb (length s) 0) refl (eqb (readReading s .number) 0) refl
+    (readings-most n card soil (siteRows card soil rows (readReading s .reading)) (addedOf sheet (siteAnswer card soil rows (readReading s .reading)) .sheet) (suc line) (drop (readReading s .taken) s)
+    (kept-added sheet (siteAnswer card soil rows (readReading s .reading)) k))
+  where
+    x : ReadingRead
+    x = readReading s
+
+    answer : Answer
+    answer = siteAnswer card soil rows (x .reading)
+
+    more : List ℕ
+    more = readingsText n card soil (siteRows card soil rows (x .reading)) (addedOf sheet answer .sheet) (suc line) (drop (x .taken) s)
+
+    go : (b : Bool) → eqb (length s) 0 ≡ b → (c : Bool) → eqb (x .number) 0 ≡ c → (suc line + length (drop (x .taken) s) < 2 ^ 64 → length more ≤ 5 * length (drop (x .taken) s) + 300)
+        → length (readingsText (suc n) card soil rows sheet line s) ≤ 5 * length s + 300
+    go true e c f ih = rw e (omega (arith, sheet-most sheet k))
+    go false e true f ih =
+        let t = reading-takes s (eqb-true (x .number) 0 f) in
+        let d = length-drop (x .taken) s in
+        let a = answer-most (x .reading .cell) answer (reading-cell s) (site-within card soil rows (x .reading)) in
+        rw (e, f) (omega (arith, length-append (answerText (x .reading .cell) answer) more, t .0, t .1, d, a, ih (omega (arith, t .0, t .1, d))))
+    go false e false f ih = rw (e, f) (omega (arith, malformed-most line (omega arith)))
+
+-- a buffer of 5 x the input's length + 300 bytes always suffices
+pub book-most : (s : List ℕ) → length (bookOf s) ≤ 5 * length s + 300
+unfolding bookOf
+book-most s = go (ltb inputLimit (length s)) refl (eqb (p .line) 0) refl (eqb number 0) refl
+  where
+    p : Parsed
+    p = parse s
+
+    rows : List ℕ
+    rows = freshRows (p .card)
+
+    number : ℕ
+    number = clearNumber (p .card) rows
+
+    rest : List ℕ
+    rest = drop (p .next) s
+
+    go : (a : Bool) → ltb inputLimit (length s) ≡ a → (b : Bool) → eqb (p .line) 0 ≡ b → (c : Bool) → eqb number 0 ≡ c → length (bookOf s) ≤ 5 * length s + 300
+    go true e b f c g = rw e (omega (arith, malformed-most 0 (omega arith)))
+    go false e false f c g = rw (e, f) (omega (arith, malformed-most (p .line) (omega (arith, line-most s))))
+    go false e true f false g = rw (e, f, g) (omega (arith, code-most number (omega (arith, clear-most (p .card) rows))))
+    go false e true f true g =
+        let d = length-drop (p .next) s in
+        let m = cells-most s (eqb-true (p .line) 0 f) in
+        let l = ltb-false inputLimit (length s) e in
+        rw (e, f, g) (omega (arith, d, readings-most (length rest) (p .card) (p .soil) (clearRows (p .card) rows) noSteps (p .card .cells + 2) rest kept-none (omega (arith, d, m, l))))

@@ -1,0 +1,1 @@
+// The journal: what the program prints, from the bytes it is given.
