@@ -1,8 +1,9 @@
 -- Everything that `waterbook` prints, for every input. Definitions only.
 use Prim.Native.Nat.{ℕ, zero, suc, _+_, _*_}
+use mathlib.Core.Path.{_≡_}
 use mathlib.Core.Bool.{cond}
 use mathlib.Core.List.{List, [], _∷_, _++_}
-use lib.Dec.{eqb, ltb}
+use lib.Dec.{eqb, leb, ltb}
 use lib.IntN.{ℤ, pos}
 use lib.ListN.{length, drop, replicate}
 use Rattle.form.specs.Bytes.{bytes}
@@ -45,12 +46,11 @@ readingsText (suc n) card soil rows sheet line s =
 abbrev pub freshRows : Card → List ℕ
 freshRows card = replicate (rowWidth * card .cells) 0
 
--- with the card read: cleared, then the readings from its end on
-abbrev pub clearedText : Parsed → List ℕ → List ℕ
-clearedText p s =
-    let rest = drop (p .next) s in
-    let number = clearNumber (p .card) (freshRows (p .card)) in
-    let more = readingsText (length rest) (p .card) (p .soil) (clearRows (p .card) (freshRows (p .card))) noSteps (p .card .cells + 2) rest in
+-- with the card read: cleared, then the readings, which start below the card's lines
+unfoldable pub clearedText : Card → List ℤ → List ℕ → List ℕ → List ℕ
+clearedText card soil rows rest =
+    let number = clearNumber card rows in
+    let more = readingsText (length rest) card soil (clearRows card rows) noSteps (card .cells + 2) rest in
     cond (eqb number 0) more (codeText number)
 
 -- more than 65,536 bytes are line 0; else the whole card first, and its malformed line where it has one
@@ -60,5 +60,15 @@ inputLimit = 65536
 unfoldable pub bookOf : List ℕ → List ℕ
 bookOf s =
     let p = parse s in
-    let more = cond (eqb (p .line) 0) (clearedText p s) (malformedText (p .line)) in
+    let more = cond (eqb (p .line) 0) (clearedText (p .card) (p .soil) (freshRows (p .card)) (drop (p .next) s)) (malformedText (p .line)) in
     cond (ltb inputLimit (length s)) (malformedText 0) more
+
+-- ---- the buffer
+-- so many bytes are asked for, and suffice, for an input of n bytes
+unfoldable pub roomFor : ℕ → ℕ
+roomFor n = 5 * n + 300
+
+-- what writing the book of s into the buffer b gives: its length, and the book at the buffer's start with no byte after it changed; in a buffer that is too short nothing, and length 0, which no book has
+pub record BookGives (s b : List ℕ) (len : ℕ) (after : List ℕ) : Type 0 where
+  pub length-is : len ≡ cond (leb (roomFor (length s)) (length b)) (length (bookOf s)) 0
+  pub buffer-is : after ≡ cond (leb (roomFor (length s)) (length b)) (bookOf s ++ drop (length (bookOf s)) b) b

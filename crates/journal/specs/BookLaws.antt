@@ -1,10 +1,10 @@
 -- How much the program prints at the most. Assumes nothing.
 use mathlib.Core.Path.{_≡_, refl}
 use mathlib.Core.Bool.{Bool, true, false}
-use mathlib.Core.List.{List}
-use Prim.Native.Nat.{ℕ, zero, suc, _+_, _*_, _≤_, _<_, _^_}
+use mathlib.Core.List.{List, _++_}
+use Prim.Native.Nat.{ℕ, zero, suc, _+_, _-_, _*_, _≤_, _<_, _^_}
 use native.Mathlib.Omega.{arith}
-use borrow.Author.Tests.{eqb-true, ltb-false}
+use borrow.Author.Tests.{eqb-true, ltb-false, eq-eqb, ne-eqb, lt-ltb, le-ltb}
 use lib.Dec.{eqb, ltb}
 use lib.IntN.{ℤ}
 use lib.ListN.{length, drop, length-append, length-drop}
@@ -21,8 +21,8 @@ use Rattle.text.specs.Readings.{readReading}
 use Rattle.text.specs.Cards.{Parsed, parse}
 use Rattle.text.specs.CardTexts.{line-most, cells-most}
 use Rattle.text.specs.LineLaws.{reading-takes, reading-cell, answer-most, sheet-most}
-use Rattle.text.specs.Printed.{answerText}
-use Rattle.journal.specs.Book.{codeForm, codeText, malformedForm, malformedText, readingsText, freshRows, inputLimit, bookOf}
+use Rattle.text.specs.Printed.{answerText, sheetText}
+use Rattle.journal.specs.Book.{codeForm, codeText, malformedForm, malformedText, readingsText, freshRows, clearedText, inputLimit, bookOf}
 
 -- a line that stands for a refusal
 pub malformed-most : (line : ℕ) → line < 2 ^ 64 → length (malformedText line) ≤ 35
@@ -32,6 +32,29 @@ malformed-most line h = text-most malformedForm _ (h, tt)
 pub code-most : (number : ℕ) → number < 2 ^ 64 → length (codeText number) ≤ 27
 unfolding codeText
 code-most number h = text-most codeForm _ (h, tt)
+
+-- ---- the text of the readings, by what stands first in s
+pub readings-end : (n : ℕ) (card : Card) (soil : List ℤ) (rows : List ℕ) (sheet : Sheet) (line : ℕ) (s : List ℕ) → length s ≡ 0 → readingsText n card soil rows sheet line s ≡ sheetText sheet
+unfolding readingsText
+readings-end zero card soil rows sheet line s e = refl
+readings-end (suc n) card soil rows sheet line s e = rw (eq-eqb (length s) 0 e)
+
+pub readings-stop : (n : ℕ) (card : Card) (soil : List ℤ) (rows : List ℕ) (sheet : Sheet) (line : ℕ) (s : List ℕ) → 0 < length s → length s ≤ n → ¬ (readReading s .number ≡ 0)
+    → readingsText n card soil rows sheet line s ≡ malformedText line
+unfolding readingsText
+readings-stop zero card soil rows sheet line s h l e = absurd (omega arith)
+readings-stop (suc n) card soil rows sheet line s h l e = rw (ne-eqb (length s) 0 (λ z. omega arith), ne-eqb (readReading s .number) 0 e)
+
+pub readings-more : (n : ℕ) (card : Card) (soil : List ℤ) (rows : List ℕ) (sheet : Sheet) (line : ℕ) (s : List ℕ) → 0 < length s → length s ≤ n → readReading s .number ≡ 0
+    → readingsText n card soil rows sheet line s
+    ≡ answerText (readReading s .reading .cell) (siteAnswer card soil rows (readReading s .reading))
+    ++ readingsText (n - 1) card soil (siteRows card soil rows (readReading s .reading)) (addedOf sheet (siteAnswer card soil rows (readReading s .reading)) .sheet) (line + 1) (drop (readReading s .taken) s)
+unfolding readingsText
+readings-more zero card soil rows sheet line s h l e = absurd (omega arith)
+readings-more (suc n) card soil rows sheet line s h l e =
+    let m : suc n - 1 ≡ n = omega arith in
+    let k : line + 1 ≡ suc line = omega arith in
+    rw (ne-eqb (length s) 0 (λ z. omega arith), eq-eqb (readReading s .number) 0 e, m, k)
 
 -- the readings: 5 bytes for each byte of theirs, and the last line
 pub readings-most : (n : ℕ) (card : Card) (soil : List ℤ) (rows : List ℕ) (sheet : Sheet) (line : ℕ) (s : List ℕ) → Kept sheet → line + length s < 2 ^ 64
@@ -62,9 +85,33 @@ readings-most (suc n) card soil rows sheet line s k l =
         rw (e, f) (omega (arith, length-append (answerText (x .reading .cell) answer) more, t .0, t .1, d, a, ih (omega (arith, t .0, t .1, d))))
     go false e false f ih = rw (e, f) (omega (arith, malformed-most line (omega arith)))
 
+-- ---- with the card read: what clearing refuses, or the readings
+pub cleared-code : (card : Card) (soil : List ℤ) (rows rest : List ℕ) → ¬ (clearNumber card rows ≡ 0) → clearedText card soil rows rest ≡ codeText (clearNumber card rows)
+unfolding clearedText
+cleared-code card soil rows rest e = rw (ne-eqb (clearNumber card rows) 0 e)
+
+pub cleared-more : (card : Card) (soil : List ℤ) (rows rest : List ℕ) → clearNumber card rows ≡ 0
+    → clearedText card soil rows rest ≡ readingsText (length rest) card soil (clearRows card rows) noSteps (card .cells + 2) rest
+unfolding clearedText
+cleared-more card soil rows rest e = rw (eq-eqb (clearNumber card rows) 0 e)
+
+-- ---- the book, by its input
+pub book-long : (s : List ℕ) → inputLimit < length s → bookOf s ≡ malformedText 0
+unfolding bookOf
+book-long s h = rw (lt-ltb inputLimit (length s) h)
+
+module _ (s : List ℕ) (h : length s ≤ inputLimit) where
+  pub book-malformed : ¬ (parse s .line ≡ 0) → bookOf s ≡ malformedText (parse s .line)
+  unfolding bookOf
+  book-malformed e = rw (le-ltb inputLimit (length s) h, ne-eqb (parse s .line) 0 e)
+
+  pub book-read : parse s .line ≡ 0 → bookOf s ≡ clearedText (parse s .card) (parse s .soil) (freshRows (parse s .card)) (drop (parse s .next) s)
+  unfolding bookOf
+  book-read e = rw (le-ltb inputLimit (length s) h, eq-eqb (parse s .line) 0 e)
+
 -- a buffer of 5 x the input's length + 300 bytes always suffices
 pub book-most : (s : List ℕ) → length (bookOf s) ≤ 5 * length s + 300
-unfolding bookOf
+unfolding clearedText bookOf
 book-most s = go (ltb inputLimit (length s)) refl (eqb (p .line) 0) refl (eqb number 0) refl
   where
     p : Parsed

@@ -13,6 +13,7 @@ use borrow.Author.Tests.{le-leb, lt-ltb, le-ltb, eq-eqb, ne-eqb, ltb-false, eqb-
 use Rattle.text.specs.declared.Written.{Written}
 use native.Mathlib.Numerals.{add-one}
 use Rattle.text.specs.declared.card.Counts.{Counts}
+use Rattle.text.specs.declared.card.CardRead.{CardRead}
 use Rattle.cell.specs.declared.Card.{Card}
 use Rattle.form.specs.Form.{Out, formAt, formText, byteAt, marks, okVals}
 use Rattle.form.specs.FormLaws.{form-one, form-back, ok-length, ok-words, plain, parted, read, unword, cells-take, take-byte, byte-is, byte-seam, small-oks, smallZ, allSmall, and-i, and-1, and-2}
@@ -22,7 +23,7 @@ use Rattle.form.specs.DecLaws.{stops}
 use Rattle.form.specs.ManyLaws.{many-one, many-back, ran, rows-fit, rows-front, good-most}
 use Rattle.form.specs.Words.{wordOf}
 use Rattle.text.specs.Lines.{cardForm, depthForm, soilForm}
-use Rattle.text.specs.Cards.{rangeCounts, countsOf, depthsAt, parse, cardText, cardParts, allZero, given, Wrote}
+use Rattle.text.specs.Cards.{rangeCounts, countsOf, depthsAt, parse, cardResult, soilResult, cardText, cardParts, allZero, given, Wrote}
 use Rattle.text.specs.Written.{noText}
 use Rattle.text.specs.ReadingLaws.{write-short, write-fits}
 use Rattle.form.specs.Put.{sets-step}
@@ -445,6 +446,34 @@ card-given s e =
       many-length (h .cells) soilForm s (d .next) (g .2),
       mr .fits,
     )
+
+-- a card that is read ends within its text
+pub card-next : (s : List ℕ) → parse s .line ≡ 0 → parse s .next ≤ length s
+unfolding parse
+card-next s e =
+    let g = all-good s e in
+    let h = countsIn s in
+    let hr = head-one s (g .0) in
+    let dr = depths-one (h .delays) s (h .next) (hr .room) (g .1) in
+    rw (g .0, g .1, g .2) (many-one (h .cells) soilForm s (depthsIn s .next) refl (dr .room) (g .2) .room)
+
+-- ---- a card read with room for 256 cells: its line is the text's, and a good one comes with all of its soil numbers
+module _ (s : List ℕ) (b : List ℤ) (room : 1280 ≤ length b) where
+  pub result-line : (r : CardRead) → r ≡ cardResult (parse s) (length b) → r .line ≡ parse s .line
+  result-line r e = ap (λ (x : CardRead). x .line) e ∙ go (eqb (parse s .line) 0) refl
+    where
+      go : (k : Bool) → eqb (parse s .line) 0 ≡ k → cardResult (parse s) (length b) .line ≡ parse s .line
+      go true k = let l = eqb-true (parse s .line) 0 k in rw (k, le-ltb (length b) (parse s .card .cells * 5) (omega (arith, cells-most s l))) (sym l)
+      go false k = rw k
+
+  pub result-card : (r : CardRead) → r ≡ cardResult (parse s) (length b) → parse s .line ≡ 0 → r ≡ record { number = 0; taken = parse s .next; line = 0; card = parse s .card }
+  result-card r e l = e ∙ rw (eq-eqb (parse s .line) 0 l, le-ltb (length b) (parse s .card .cells * 5) (omega (arith, cells-most s l)))
+
+  pub result-soil : (v : List ℤ) → v ≡ soilResult (parse s) b → parse s .line ≡ 0 → take (5 * parse s .card .cells) v ≡ parse s .soil
+  result-soil v e l =
+      let n = card-given s l .1 in
+      rw (e, eq-eqb (parse s .line) 0 l, le-ltb (length b) (parse s .card .cells * 5) (omega (arith, cells-most s l)))
+      (take-at (parse s .soil) (drop (parse s .card .cells * 5) b) (5 * parse s .card .cells) (omega (arith, n)))
 
 -- the card and soil numbers that were read, written into a buffer with room, stand there as the very bytes that were taken
 pub card-again : (s b : List ℕ) → parse s .line ≡ 0 → length (take (parse s .next) s) ≤ length b → (w : Written) (after : List ℕ) → Wrote (parse s .card) (parse s .soil) b w after

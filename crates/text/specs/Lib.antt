@@ -10,3 +10,4 @@ pub mod ReadingLaws
 pub mod CardLaws
 pub mod CardTexts
 pub mod LineLaws
+pub mod PrintLaws

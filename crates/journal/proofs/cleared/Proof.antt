@@ -1,0 +1,63 @@
+-- `journal::cleared` meets its contract. Assumes nothing.
+use native.Mathlib.Nat.{zero-add}
+use Rattle.journal.specs.BookLaws.{cleared-code, cleared-more}
+use lib.ListN.{length}
+use mathlib.Core.Path.{sym, ap, _∙_}
+use native.Mathlib.Omega.{arith}
+use borrow.Author.Needs.{needs}
+use Rattle.journal.proofs.cleared.Statement.{statement}
+use Rattle.journal.proofs.cleared.Tie as tie
+use Rattle.journal.proofs.cleared.Reads as reads
+use Rattle.journal.proofs.cleared.Lts as lts
+use Rattle.journal.proofs.lines.put_code.Reads as put-code-reads
+use Rattle.journal.proofs.readings.put_readings.Reads as put-readings-reads
+use Rattle.site.proofs.clear.Reads as clear-reads
+
+clear-requires : tie.Need-clear-requires
+clear-requires c κs = search needs
+
+put-code-requires : tie.Need-put-code-requires
+put-code-requires c κs = rw (c .before .before .before .before .clear .ensures .number-is) (omega (arith, ap length (cleared-code (c .before .before .before .before .before .before .before .before .before .args .card) (c .before .before .before .before .before .before .before .before .before .args .soil .now) (c .before .before .before .before .before .before .before .before .before .args .rows .now) (c .before .before .before .before .before .before .before .before .before .args .rest .now) (rw (c .before .before .before .before .clear .ensures .number-is) at (c .before .if1 .taken))), c .before .before .before .before .before .before .before .before .before .pre .1))
+
+same-length : tie.Need-same-length
+same-length c = search needs
+
+same-length-2 : tie.Need-same-length-2
+same-length-2 c = search needs
+
+returns : tie.Need-returns
+returns c = let p = rw (c .before .before .before .before .before .before .before .clear .ensures .number-is) at (c .before .before .put-code .ensures) in rw (cleared-code (c .before .before .before .before .before .before .before .before .before .before .before .before .args .card) (c .before .before .before .before .before .before .before .before .before .before .before .before .args .soil .now) (c .before .before .before .before .before .before .before .before .before .before .before .before .args .rows .now) (c .before .before .before .before .before .before .before .before .before .before .before .before .args .rest .now) (rw (c .before .before .before .before .before .before .before .clear .ensures .number-is) at (c .before .before .before .before .if1 .taken))) (p .0 ∙ zero-add _, p .1)
+
+cast-put-readings : tie.Need-cast-put-readings
+cast-put-readings c = search needs
+
+add-put-readings : tie.Need-add-put-readings
+add-put-readings c = search needs
+
+put-readings-requires : tie.Need-put-readings-requires
+put-readings-requires c κs = (omega (arith, c .before .before .before .before .before .before .before .before .before .before .before .pre .0), rw (c .before .before .before .before .before .before .clear .ensures .rows-are) (omega (arith, ap length (cleared-more (c .before .before .before .before .before .before .before .before .before .before .before .args .card) (c .before .before .before .before .before .before .before .before .before .before .before .args .soil .now) (c .before .before .before .before .before .before .before .before .before .before .before .args .rows .now) (c .before .before .before .before .before .before .before .before .before .before .before .args .rest .now) (sym (c .before .before .before .before .before .before .clear .ensures .number-is) ∙ c .before .before .before .if1 .left)), c .before .before .before .before .before .before .before .before .before .before .before .pre .1)))
+
+same-length-3 : tie.Need-same-length-3
+same-length-3 c = search needs
+
+same-length-4 : tie.Need-same-length-4
+same-length-4 c = search needs
+
+returns-2 : tie.Need-returns-2
+returns-2 c = rw (cleared-more (c .before .before .before .before .before .before .before .before .before .before .before .before .before .before .before .before .args .card) (c .before .before .before .before .before .before .before .before .before .before .before .before .before .before .before .before .args .soil .now) (c .before .before .before .before .before .before .before .before .before .before .before .before .before .before .before .before .args .rows .now) (c .before .before .before .before .before .before .before .before .before .before .before .before .before .before .before .before .args .rest .now) (sym (c .before .before .before .before .before .before .before .before .before .before .before .clear .ensures .number-is) ∙ c .before .before .before .before .before .before .before .before .if1 .left)) (rw (c .before .before .before .before .before .before .before .before .before .before .before .clear .ensures .rows-are) at (c .before .before .before .before .put-readings .ensures))
+
+pub cleared-spec : {M : Type 1} → statement M
+cleared-spec =
+    tie.close
+    (tie.spec
+    clear-requires
+    put-code-requires
+    same-length
+    same-length-2
+    returns
+    cast-put-readings
+    add-put-readings
+    put-readings-requires
+    same-length-3
+    same-length-4
+    returns-2)

@@ -1,0 +1,56 @@
+-- What the site answers, and what adding has made, can be printed. Assumes nothing.
+use mathlib.Core.Path.{_≡_, ap, _∙_}
+use mathlib.Core.Bool.{Bool, true}
+use mathlib.Core.List.{List, _++_}
+use Prim.Native.Nat.{ℕ, _*_, _≤_}
+use native.Mathlib.Omega.{arith}
+use borrow.Author.Tests.{le-leb}
+use lib.Dec.{leb}
+use lib.ListN.{length, drop}
+use Rattle.cell.specs.declared.Amounts.{Amounts}
+use Rattle.site.specs.declared.Sheet.{Sheet}
+use Rattle.site.specs.SheetLaws.{AmountsWithin, Kept}
+use Rattle.text.specs.declared.Written.{Written}
+use Rattle.text.specs.Printed.{most, amountsPrintable, sheetPrintable, Prints}
+
+fits : (n m : ℕ) → n ≤ m → m ≤ most → leb n most ≡ true
+fits n m h k = le-leb n most (omega arith)
+
+pub amounts-printable : (a : Amounts) → AmountsWithin a → amountsPrintable a ≡ true
+unfolding amountsPrintable
+amounts-printable a h =
+    let q : 30000000000 ≤ most = omega arith in
+    rw (
+      fits _ _ (h .inflow) q,
+      fits _ _ (h .runoff) q,
+      fits _ _ (h .etvad) q,
+      fits _ _ (h .etstor) q,
+      fits _ _ (h .etsat) q,
+      fits _ _ (h .drain) q,
+      fits _ _ (h .release) q,
+      fits _ _ (h .stored) q,
+      fits _ _ (h .left) q,
+    )
+
+pub sheet-printable : (s : Sheet) → Kept s → sheetPrintable s ≡ true
+unfolding sheetPrintable
+sheet-printable s h =
+    let k = h .sums in
+    let q : 30000000000 * s .steps ≤ most = omega (arith, h .steps) in
+    rw (
+      fits _ _ (h .steps) (omega arith),
+      fits _ _ (k .inflow) q,
+      fits _ _ (k .runoff) q,
+      fits _ _ (k .etvad) q,
+      fits _ _ (k .etstor) q,
+      fits _ _ (k .etsat) q,
+      fits _ _ (k .drain) q,
+      fits _ _ (k .release) q,
+      fits _ _ (k .stored) q,
+    )
+
+-- a text that can be printed and has room stands at the buffer's start
+pub prints-text : (p : Bool) (t b : List ℕ) (w : Written) (after : List ℕ) → Prints p t b w after → p ≡ true → length t ≤ length b → (w .len ≡ length t) × (after ≡ t ++ drop (length t) b)
+prints-text p t b w after h e l =
+    let k : leb (length t) (length b) ≡ true = le-leb _ _ l in
+    (ap (λ (x : Written). x .len) (h .written) ∙ rw (e, k), h .buffer ∙ rw (e, k))
