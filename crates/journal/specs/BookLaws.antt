@@ -1,11 +1,11 @@
 -- How much the program prints at the most. Assumes nothing.
-use mathlib.Core.Path.{_≡_, refl}
+use mathlib.Core.Path.{_≡_, refl, _∙_}
 use mathlib.Core.Bool.{Bool, true, false}
 use mathlib.Core.List.{List, _++_}
 use Prim.Native.Nat.{ℕ, zero, suc, _+_, _-_, _*_, _≤_, _<_, _^_}
 use native.Mathlib.Omega.{arith}
-use borrow.Author.Tests.{eqb-true, ltb-false, eq-eqb, ne-eqb, lt-ltb, le-ltb}
-use lib.Dec.{eqb, ltb}
+use borrow.Author.Tests.{eqb-true, leb-true, ltb-false, eq-eqb, ne-eqb, lt-ltb, le-ltb}
+use lib.Dec.{eqb, leb, ltb}
 use lib.IntN.{ℤ}
 use lib.ListN.{length, drop, length-append, length-drop}
 use Rattle.form.specs.LengthLaws.{text-most}
@@ -22,7 +22,7 @@ use Rattle.text.specs.Cards.{Parsed, parse}
 use Rattle.text.specs.CardTexts.{line-most, cells-most}
 use Rattle.text.specs.LineLaws.{reading-takes, reading-cell, answer-most, sheet-most}
 use Rattle.text.specs.Printed.{answerText, sheetText}
-use Rattle.journal.specs.Book.{codeForm, codeText, malformedForm, malformedText, readingsText, freshRows, clearedText, inputLimit, bookOf}
+use Rattle.journal.specs.Book.{codeForm, codeText, malformedForm, malformedText, readingsText, freshRows, clearedText, inputLimit, bookOf, roomFor, BookGives}
 
 -- a line that stands for a refusal
 pub malformed-most : (line : ℕ) → line < 2 ^ 64 → length (malformedText line) ≤ 35
@@ -135,3 +135,12 @@ book-most s = go (ltb inputLimit (length s)) refl (eqb (p .line) 0) refl (eqb nu
         let m = cells-most s (eqb-true (p .line) 0 f) in
         let l = ltb-false inputLimit (length s) e in
         rw (e, f, g) (omega (arith, d, readings-most (length rest) (p .card) (p .soil) (clearRows (p .card) rows) noSteps (p .card .cells + 2) rest kept-none (omega (arith, d, m, l))))
+
+-- ---- what the contract tells of the length: the book lies within the buffer
+pub within-buffer : (s b : List ℕ) (len : ℕ) (after : List ℕ) → BookGives s b len after → len ≤ length b
+unfolding roomFor
+within-buffer s b len after g = go (leb (roomFor (length s)) (length b)) refl
+  where
+    go : (k : Bool) → leb (roomFor (length s)) (length b) ≡ k → len ≤ length b
+    go true e = let p : len ≡ length (bookOf s) = g .length-is ∙ rw e in omega (arith, p, book-most s, leb-true (5 * length s + 300) (length b) e)
+    go false e = let p : len ≡ 0 = g .length-is ∙ rw e in omega (arith, p)

@@ -1,0 +1,68 @@
+-- `waterbook::main` meets its contract. Assumes nothing.
+use Rattle.journal.specs.BookLaws.{within-buffer}
+use lib.Seq.{length-take-le}
+use mathlib.Core.Path.{sym}
+use native.Mathlib.Omega.{arith}
+use borrow.Author.Needs.{needs}
+use Rattle.waterbook.proofs.main.Statement.{statement}
+use Rattle.waterbook.proofs.main.Tie as tie
+use Rattle.waterbook.proofs.main.Reads as reads
+use Rattle.waterbook.proofs.main.Lts as lts
+use Rattle.io.proofs.read_full.Reads as read-full-reads
+use Rattle.io.proofs.write_all.Reads as write-all-reads
+use Rattle.journal.proofs.book.Reads as book-reads
+use Rattle.waterbook.proofs.book_room.Reads as book-room-reads
+use Rattle.waterbook.proofs.input_room.Reads as input-room-reads
+
+input-room-requires : tie.Need-input-room-requires
+input-room-requires c κs = search needs
+
+book-room-requires : tie.Need-book-room-requires
+book-room-requires c κs = search needs
+
+slice-aggregate-read-full : tie.Need-slice-aggregate-read-full
+slice-aggregate-read-full c = search needs
+
+read-full-requires : tie.Need-read-full-requires
+read-full-requires c κs = search needs
+
+array-share-prefix-input : tie.Need-array-share-prefix-input
+array-share-prefix-input c = search needs
+
+slice-aggregate-book : tie.Need-slice-aggregate-book
+slice-aggregate-book c = search needs
+
+slice-aggregate-book-2 : tie.Need-slice-aggregate-book-2
+slice-aggregate-book-2 c = search needs
+
+book-requires : tie.Need-book-requires
+book-requires c κs = search needs
+
+array-share-prefix-out : tie.Need-array-share-prefix-out
+array-share-prefix-out c = omega (arith, within-buffer _ _ _ _ (c .before .book .ensures), c .before .book .kept .1 .0)
+
+slice-aggregate-write-all : tie.Need-slice-aggregate-write-all
+slice-aggregate-write-all c = sym (length-take-le (c .before .before .book .result) (c .before .before .book .last .1 .0) (omega (arith, within-buffer _ _ _ _ (c .before .before .book .ensures), c .before .before .book .kept .1 .0)))
+
+write-all-requires : tie.Need-write-all-requires
+write-all-requires c κs = search needs
+
+returns : tie.Need-returns
+returns c = search needs
+
+pub main-spec : {M : Type 1} → statement M
+main-spec =
+    tie.close
+    (tie.spec
+    input-room-requires
+    book-room-requires
+    slice-aggregate-read-full
+    read-full-requires
+    array-share-prefix-input
+    slice-aggregate-book
+    slice-aggregate-book-2
+    book-requires
+    array-share-prefix-out
+    slice-aggregate-write-all
+    write-all-requires
+    returns)
