@@ -6,11 +6,13 @@ pub mod Signed
 pub mod Form
 pub mod Many
 pub mod Words
+pub mod Ends
 -- laws of these
 pub mod DecLaws
 pub mod HexLaws
 pub mod FormLaws
 pub mod LengthLaws
+pub mod EndLaws
 pub mod RunLaws
 pub mod ManyLaws
 pub mod Put

@@ -9,7 +9,6 @@ use lib.Seq.{sets, drop-drop}
 use Rattle.form.specs.Put.{sets-step}
 use Rattle.cell.specs.declared.Card.{Card}
 use Rattle.cell.specs.declared.Answer.{Answer}
-use Rattle.cell.specs.declared.Reading.{Reading}
 use Rattle.site.specs.declared.Sheet.{Sheet}
 use Rattle.site.specs.declared.Added.{Added}
 use Rattle.site.specs.Site.{siteAnswer, siteRows}

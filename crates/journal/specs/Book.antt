@@ -13,7 +13,7 @@ use Rattle.site.specs.declared.Sheet.{Sheet}
 use Rattle.site.specs.Site.{rowWidth, siteAnswer, siteRows, clearNumber, clearRows}
 use Rattle.site.specs.Sheet.{noSteps, addedOf}
 use Rattle.text.specs.Readings.{readReading}
-use Rattle.text.specs.Cards.{Parsed, parse}
+use Rattle.text.specs.Cards.{parse}
 use Rattle.text.specs.Printed.{answerText, sheetText}
 
 -- ---- the lines that stand for a refusal

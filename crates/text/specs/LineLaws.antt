@@ -1,15 +1,17 @@
--- How long the lines are: a reading's at the least, an answer's and the sheet's at the most. Assumes nothing.
+-- How long the lines are, a reading's at the least, an answer's and the sheet's at the most; and that each is one line. Assumes nothing.
 use mathlib.Core.Path.{_≡_, refl, sym, ap, _∙_}
 use mathlib.Core.Bool.{Bool, true, false}
 use mathlib.Core.List.{List}
 use Prim.Native.Nat.{ℕ, _≤_, _<_, _^_}
 use native.Mathlib.Omega.{arith}
 use lib.IntN.{pos}
-use lib.ListN.{length, getD}
+use lib.ListN.{length, getD, take}
 use lib.Seq.{length-take-le}
 use Rattle.form.specs.Form.{formAt, formText}
 use Rattle.form.specs.FormLaws.{form-one}
 use Rattle.form.specs.LengthLaws.{text-least, text-most}
+use Rattle.form.specs.Ends.{lineEnds}
+use Rattle.form.specs.EndLaws.{ends-form}
 use Rattle.cell.specs.declared.Answer.{Answer}
 use Rattle.cell.specs.Refusals.{numberOf, amountsOf}
 use Rattle.cell.specs.CheckLaws.{number-most}
@@ -17,7 +19,8 @@ use Rattle.site.specs.declared.Sheet.{Sheet}
 use Rattle.site.specs.SheetLaws.{AmountsWithin, Kept}
 use Rattle.form.specs.Words.{word-lt}
 use Rattle.text.specs.Lines.{readingForm, answerForm, sheetForm}
-use Rattle.text.specs.Readings.{readReading}
+use Rattle.text.specs.Readings.{readReading, valsOf, textOf}
+use Rattle.text.specs.ReadingLaws.{one-text}
 use Rattle.text.specs.Printed.{answerVals, answerText, sheetVals, sheetText}
 
 -- a reading takes 73 bytes at the least, all of them from the text
@@ -56,3 +59,17 @@ sheet-most s h =
     let k = h .sums in
     text-most sheetForm (sheetVals s)
     (omega (arith, h .steps), (omega (arith, k .inflow, h .steps), (omega (arith, k .runoff, h .steps), (omega (arith, k .etvad, h .steps), (omega (arith, k .etstor, h .steps), (omega (arith, k .etsat, h .steps), (omega (arith, k .drain, h .steps), (omega (arith, k .release, h .steps), (omega (arith, k .stored, h .steps), (omega (arith, k .recharge, h .steps), tt))))))))))
+
+-- ---- each is one line
+pub answer-line : (cell : ℕ) (answer : Answer) → lineEnds (answerText cell answer) ≡ 1
+unfolding answerText
+answer-line cell answer = ends-form answerForm (answerVals cell (numberOf answer) (amountsOf answer))
+
+pub sheet-line : (s : Sheet) → lineEnds (sheetText s) ≡ 1
+unfolding sheetText
+sheet-line s = ends-form sheetForm (sheetVals s)
+
+-- what a reading takes is one line of its text
+pub reading-line : (s : List ℕ) → readReading s .number ≡ 0 → lineEnds (take (readReading s .taken) s) ≡ 1
+unfolding textOf
+reading-line s e = rw (one-text s e) (ends-form readingForm (valsOf (readReading s .reading)))

@@ -3,23 +3,16 @@ use Rattle.journal.proofs.Given.{no-room, book-fits, written, line-is, 
 use lib.Seq.{sets, length-take-le}
 use Prim.Native.Nat.{ℕ}
 use Rattle.journal.proofs.Lent.{rest-is}
-use Rattle.journal.specs.BookLaws.{book-long, book-malformed, book-read}
-use Rattle.text.specs.CardTexts.{line-most, cells-most, card-next, result-line, result-card, result-soil}
+use Rattle.journal.specs.BookLaws.{book-long, book-malformed}
+use Rattle.text.specs.CardTexts.{line-most}
 use lib.ListN.{length, replicate, length-drop, length-replicate}
-use lib.IntN.{pos}
 use borrow.Author.Tests.{not-true, not-false}
-use mathlib.Core.Path.{_≡_, refl, sym, ap, _∙_}
+use mathlib.Core.Path.{sym, ap, _∙_}
 use native.Mathlib.Nat.{zero-add}
 use native.Mathlib.Omega.{arith}
 use borrow.Author.Needs.{needs}
 use Rattle.journal.proofs.book.Statement.{statement}
 use Rattle.journal.proofs.book.Tie as tie
-use Rattle.journal.proofs.book.Reads as reads
-use Rattle.journal.proofs.book.Lts as lts
-use Rattle.journal.proofs.cleared.Reads as cleared-reads
-use Rattle.journal.proofs.has_room.Reads as has-room-reads
-use Rattle.journal.proofs.lines.put_malformed.Reads as put-malformed-reads
-use Rattle.text.proofs.card.read.Reads as read-reads
 
 has-room-requires : tie.Need-has-room-requires
 has-room-requires c κs = search needs

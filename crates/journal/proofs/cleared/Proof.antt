@@ -7,11 +7,6 @@ use native.Mathlib.Omega.{arith}
 use borrow.Author.Needs.{needs}
 use Rattle.journal.proofs.cleared.Statement.{statement}
 use Rattle.journal.proofs.cleared.Tie as tie
-use Rattle.journal.proofs.cleared.Reads as reads
-use Rattle.journal.proofs.cleared.Lts as lts
-use Rattle.journal.proofs.lines.put_code.Reads as put-code-reads
-use Rattle.journal.proofs.readings.put_readings.Reads as put-readings-reads
-use Rattle.site.proofs.clear.Reads as clear-reads
 
 clear-requires : tie.Need-clear-requires
 clear-requires c κs = search needs

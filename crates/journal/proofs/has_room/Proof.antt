@@ -8,8 +8,6 @@ use mathlib.Core.Path.{_≡_, refl, sym}
 use native.Mathlib.Omega.{arith}
 use Rattle.journal.proofs.has_room.Statement.{statement}
 use Rattle.journal.proofs.has_room.Tie as tie
-use Rattle.journal.proofs.has_room.Reads as reads
-use Rattle.journal.proofs.has_room.Lts as lts
 
 -- the test of the code is that of the room
 same-test : (n m : ℕ) → 300 ≤ m → leb n ((m - 300) / 5) ≡ leb (roomFor n) m

@@ -6,13 +6,6 @@ use native.Mathlib.Omega.{arith}
 use borrow.Author.Needs.{needs}
 use Rattle.waterbook.proofs.main.Statement.{statement}
 use Rattle.waterbook.proofs.main.Tie as tie
-use Rattle.waterbook.proofs.main.Reads as reads
-use Rattle.waterbook.proofs.main.Lts as lts
-use Rattle.io.proofs.read_full.Reads as read-full-reads
-use Rattle.io.proofs.write_all.Reads as write-all-reads
-use Rattle.journal.proofs.book.Reads as book-reads
-use Rattle.waterbook.proofs.book_room.Reads as book-room-reads
-use Rattle.waterbook.proofs.input_room.Reads as input-room-reads
 
 input-room-requires : tie.Need-input-room-requires
 input-room-requires c κs = search needs

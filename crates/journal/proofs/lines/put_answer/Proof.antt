@@ -5,14 +5,11 @@ use Rattle.text.specs.PrintLaws.{amounts-printable, prints-text}
 use Rattle.text.specs.Printed.{answerText}
 use lib.ListN.{length, take, drop, length-drop}
 use Prim.Native.Nat.{ℕ, _+_, _-_}
-use mathlib.Core.Path.{_≡_, sym, ap, _∙_}
+use mathlib.Core.Path.{ap}
 use native.Mathlib.Omega.{arith}
 use borrow.Author.Needs.{needs}
 use Rattle.journal.proofs.lines.put_answer.Statement.{statement}
 use Rattle.journal.proofs.lines.put_answer.Tie as tie
-use Rattle.journal.proofs.lines.put_answer.Reads as reads
-use Rattle.journal.proofs.lines.put_answer.Lts as lts
-use Rattle.text.proofs.print.answer.Reads as answer-reads
 
 sub-answer : tie.Need-sub-answer
 sub-answer c = search needs

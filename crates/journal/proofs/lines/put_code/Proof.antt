@@ -6,9 +6,6 @@ use Rattle.journal.specs.Book.{codeText}
 use borrow.Author.Needs.{needs}
 use Rattle.journal.proofs.lines.put_code.Statement.{statement}
 use Rattle.journal.proofs.lines.put_code.Tie as tie
-use Rattle.journal.proofs.lines.put_code.Reads as reads
-use Rattle.journal.proofs.lines.put_code.Lts as lts
-use Rattle.form.proofs.line.put_form.Reads as put-form-reads
 
 cast-t6 : tie.Need-cast-t6
 cast-t6 c = search needs

@@ -1,14 +1,10 @@
 -- `journal::lines::put_malformed` meets its contract. Assumes nothing.
-use native.Mathlib.Omega.{arith}
 use mir.Facts.{toZ-pos}
 use mir.Syntax.{w64}
 use Rattle.journal.specs.Book.{malformedText}
 use borrow.Author.Needs.{needs}
 use Rattle.journal.proofs.lines.put_malformed.Statement.{statement}
 use Rattle.journal.proofs.lines.put_malformed.Tie as tie
-use Rattle.journal.proofs.lines.put_malformed.Reads as reads
-use Rattle.journal.proofs.lines.put_malformed.Lts as lts
-use Rattle.form.proofs.line.put_form.Reads as put-form-reads
 
 cast-t6 : tie.Need-cast-t6
 cast-t6 c = search needs

@@ -4,14 +4,11 @@ use Rattle.text.specs.PrintLaws.{sheet-printable, prints-text}
 use Rattle.text.specs.Printed.{sheetText}
 use lib.ListN.{length, take, drop, length-drop}
 use Prim.Native.Nat.{ℕ, _+_, _-_}
-use mathlib.Core.Path.{_≡_, sym, ap, _∙_}
+use mathlib.Core.Path.{ap}
 use native.Mathlib.Omega.{arith}
 use borrow.Author.Needs.{needs}
 use Rattle.journal.proofs.lines.put_sheet.Statement.{statement}
 use Rattle.journal.proofs.lines.put_sheet.Tie as tie
-use Rattle.journal.proofs.lines.put_sheet.Reads as reads
-use Rattle.journal.proofs.lines.put_sheet.Lts as lts
-use Rattle.text.proofs.print.sheet.Reads as sheet-reads
 
 sub-sheet : tie.Need-sub-sheet
 sub-sheet c = search needs

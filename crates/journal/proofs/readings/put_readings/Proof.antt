@@ -1,25 +1,16 @@
 -- `journal::readings::put_readings` meets its contract. Assumes nothing.
-use mathlib.Core.Path.{_≡_, refl, sym, ap, _∙_}
+use mathlib.Core.Path.{_≡_, refl, _∙_}
 use Rattle.journal.proofs.Turns.{Inv, begin, end-fits, end-put, stop-fits, stop-put, fits, within, shorter, turn}
 use Rattle.journal.proofs.Lent.{rest-is}
 use Rattle.journal.specs.Book.{readingsText}
 use Rattle.site.specs.SheetLaws.{site-within}
 use Rattle.site.specs.Sheet.{noSteps}
-use lib.ListN.{length, drop}
-use Prim.Native.Nat.{ℕ, _+_, _-_, _≤_, _<_}
+use lib.ListN.{length}
+use Prim.Native.Nat.{_+_, _-_}
 use native.Mathlib.Omega.{arith}
 use borrow.Author.Needs.{needs}
 use Rattle.journal.proofs.readings.put_readings.Statement.{statement}
 use Rattle.journal.proofs.readings.put_readings.Tie as tie
-use Rattle.journal.proofs.readings.put_readings.Reads as reads
-use Rattle.journal.proofs.readings.put_readings.Lts as lts
-use Rattle.journal.proofs.lines.put_answer.Reads as put-answer-reads
-use Rattle.journal.proofs.lines.put_malformed.Reads as put-malformed-reads
-use Rattle.journal.proofs.lines.put_sheet.Reads as put-sheet-reads
-use Rattle.site.proofs.Sheet.add.Reads as add-reads
-use Rattle.site.proofs.Sheet.new.Reads as new-reads
-use Rattle.site.proofs.step.Reads as step-reads
-use Rattle.text.proofs.reading.read.Reads as read-reads
 
 abbrev Inv-loop : tie.InvT-loop
 Inv-loop card soil rows₀ s first out₀ sheet₀ at₀ line₀ end₀ rows out sheet at line end = (length rows ≡ length rows₀) × Inv card soil s (readingsText (length s) card soil rows₀ noSteps first s) out₀ (first + length s) rows out sheet at line end

@@ -1,0 +1,2 @@
+-- What the cases start from.
+pub mod Plots

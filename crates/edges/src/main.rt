@@ -1,0 +1,24 @@
+// Runs the cases of document 01 that are not proved: its unstarred edges, and both sides of each refusal number.
+mod card_texts;
+mod cards;
+mod fields;
+mod heads;
+mod plots;
+mod readings;
+mod rows;
+mod sheets;
+mod show;
+mod sites;
+mod soils;
+
+fn main() {
+    cards::cases();
+    sites::cases();
+    soils::cases();
+    rows::cases();
+    fields::cases();
+    heads::cases();
+    sheets::cases();
+    readings::cases();
+    card_texts::cases();
+}

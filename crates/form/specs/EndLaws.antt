@@ -1,0 +1,73 @@
+-- The text of a form has the line ends of the form: no value has one. Assumes nothing.
+use mathlib.Core.Path.{_≡_, refl, sym, _∙_}
+use mathlib.Core.Bool.{Bool, true, false, false≢true}
+use mathlib.Core.List.{List, [], _∷_, _++_}
+use Prim.Native.Nat.{ℕ, zero, suc, _+_, _/_, _%_}
+use native.Mathlib.Nat.{zero-add}
+use native.Mathlib.Omega.{arith}
+use borrow.Author.Tests.{eqb-true, eqb-false, ne-eqb}
+use lib.Dec.{eqb, ltb}
+use lib.IntN.{ℤ, natAbs}
+use Rattle.form.specs.Dec.{dec, decF}
+use Rattle.form.specs.Hex.{hexByte, hex}
+use Rattle.form.specs.Form.{valText, isMark, headZ, tailZ, formText}
+use Rattle.form.specs.FormLaws.{text-neg, text-pos, text-hex}
+use Rattle.form.specs.Signed.{isNeg}
+use Rattle.form.specs.Ends.{lineEnds}
+
+pub ends-append : (a b : List ℕ) → lineEnds (a ++ b) ≡ lineEnds a + lineEnds b
+ends-append [] b = sym (zero-add (lineEnds b))
+ends-append (c ∷ a) b = go (eqb c 10) refl (ends-append a b)
+  where
+    go : (k : Bool) → eqb c 10 ≡ k → lineEnds (a ++ b) ≡ lineEnds a + lineEnds b → lineEnds (c ∷ a ++ b) ≡ lineEnds (c ∷ a) + lineEnds b
+    go true e ih = rw e (omega (arith, ih))
+    go false e ih = rw e ih
+
+-- a byte that is no line end, behind a text that has none
+ends-snoc : (a : List ℕ) (c : ℕ) → lineEnds a ≡ 0 → ¬ (c ≡ 10) → lineEnds (a ++ (c ∷ [])) ≡ 0
+ends-snoc a c e n = ends-append a (c ∷ []) ∙ rw (e, ne-eqb c 10 n)
+
+ends-digits : (k n : ℕ) → lineEnds (decF k n) ≡ 0
+unfolding decF
+ends-digits zero n = refl
+ends-digits (suc k) n = go (ltb n 10) refl (ends-digits k (n / 10))
+  where
+    go : (b : Bool) → ltb n 10 ≡ b → lineEnds (decF k (n / 10)) ≡ 0 → lineEnds (decF (suc k) n) ≡ 0
+    go true e ih = rw (e, ne-eqb (48 + n) 10 (λ z. omega arith))
+    go false e ih = rw e (ends-snoc (decF k (n / 10)) (48 + n % 10) ih (λ z. omega arith))
+
+ends-dec : (n : ℕ) → lineEnds (dec n) ≡ 0
+unfolding dec
+ends-dec n = ends-digits (suc n) n
+
+hex-end : (d : ℕ) → ¬ (hexByte d ≡ 10)
+hex-end d e = go (ltb d 10) refl
+  where
+    go : (b : Bool) → ltb d 10 ≡ b → ⊥
+    go true f = let z : 48 + d ≡ 10 = rw f at e in omega arith
+    go false f = let z : 87 + d ≡ 10 = rw f at e in omega arith
+
+ends-hex : (k n : ℕ) → lineEnds (hex k n) ≡ 0
+unfolding hex
+ends-hex zero n = refl
+ends-hex (suc k) n = ends-snoc (hex k (n / 16)) (hexByte (n % 16)) (ends-hex k (n / 16)) (hex-end (n % 16))
+
+ends-value : (c : ℕ) (z : ℤ) → lineEnds (valText c z) ≡ 0
+ends-value c z = go (eqb c 37) refl (isNeg z) refl
+  where
+    go : (b : Bool) → eqb c 37 ≡ b → (d : Bool) → isNeg z ≡ d → lineEnds (valText c z) ≡ 0
+    go true e d g = rw (text-hex c z (eqb-true c 37 e)) (ends-hex 8 (natAbs z))
+    go false e true g = rw (text-neg c z (eqb-false c 37 e) g) (ends-dec (natAbs z))
+    go false e false g = rw (text-pos c z (eqb-false c 37 e) g) (ends-dec (natAbs z))
+
+mark-end : (c : ℕ) → isMark c ≡ true → eqb c 10 ≡ false
+mark-end c e = ne-eqb c 10 (λ z. false≢true (rw z at e))
+
+pub ends-form : (f : List ℕ) (vs : List ℤ) → lineEnds (formText f vs) ≡ lineEnds f
+unfolding formText
+ends-form [] vs = refl
+ends-form (c ∷ f) vs = go (isMark c) refl (ends-form f)
+  where
+    go : (b : Bool) → isMark c ≡ b → ((vs : List ℤ) → lineEnds (formText f vs) ≡ lineEnds f) → lineEnds (formText (c ∷ f) vs) ≡ lineEnds (c ∷ f)
+    go true e ih = rw (e, mark-end c e) (ends-append (valText c (headZ vs)) (formText f (tailZ vs)) ∙ rw (ends-value c (headZ vs)) (zero-add _ ∙ ih (tailZ vs)))
+    go false e ih = rw (e, ih vs)
