@@ -1,0 +1,4 @@
+-- What the proofs share, and that each contract settles its function.
+pub mod Copies
+pub mod Added
+pub mod Settled

@@ -1,0 +1,57 @@
+-- `gateway::shapes::sheet_from` meets its contract. Assumes nothing.
+use mir.Facts.{toZ-ofZ}
+use mir.Syntax.{w64}
+use Rattle.gateway.specs.Shapes.{sheetFrom}
+use borrow.Author.Needs.{needs}
+use Rattle.gateway.proofs.shapes.sheet_from.Statement.{statement}
+use Rattle.gateway.proofs.shapes.sheet_from.Tie as tie
+
+size-at-requires : tie.Need-size-at-requires
+size-at-requires c κs = search needs
+
+size-at-requires-2 : tie.Need-size-at-requires-2
+size-at-requires-2 c κs = search needs
+
+size-at-requires-3 : tie.Need-size-at-requires-3
+size-at-requires-3 c κs = search needs
+
+size-at-requires-4 : tie.Need-size-at-requires-4
+size-at-requires-4 c κs = search needs
+
+size-at-requires-5 : tie.Need-size-at-requires-5
+size-at-requires-5 c κs = search needs
+
+size-at-requires-6 : tie.Need-size-at-requires-6
+size-at-requires-6 c κs = search needs
+
+size-at-requires-7 : tie.Need-size-at-requires-7
+size-at-requires-7 c κs = search needs
+
+size-at-requires-8 : tie.Need-size-at-requires-8
+size-at-requires-8 c κs = search needs
+
+size-at-requires-9 : tie.Need-size-at-requires-9
+size-at-requires-9 c κs = search needs
+
+number-at-requires : tie.Need-number-at-requires
+number-at-requires c κs = search needs
+
+returns : tie.Need-returns
+unfolding sheetFrom
+returns c = rw (c .before .size-at9 .ensures, c .before .before .size-at8 .ensures, c .before .before .before .size-at7 .ensures, c .before .before .before .before .size-at6 .ensures, c .before .before .before .before .before .size-at5 .ensures, c .before .before .before .before .before .before .size-at4 .ensures, c .before .before .before .before .before .before .before .size-at3 .ensures, c .before .before .before .before .before .before .before .before .size-at2 .ensures, c .before .before .before .before .before .before .before .before .before .size-at .ensures, toZ-ofZ {w = w64} {z = c .number-at .result} (search needs), c .number-at .ensures)
+
+pub sheet-from-spec : {M : Type 1} → statement M
+sheet-from-spec =
+    tie.close
+    (tie.spec
+    size-at-requires
+    size-at-requires-2
+    size-at-requires-3
+    size-at-requires-4
+    size-at-requires-5
+    size-at-requires-6
+    size-at-requires-7
+    size-at-requires-8
+    size-at-requires-9
+    number-at-requires
+    returns)

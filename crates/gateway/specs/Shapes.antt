@@ -1,0 +1,117 @@
+-- The records as rows of numbers, as a host hands them over. Definitions only.
+use Prim.Native.Nat.{ℕ}
+use mathlib.Core.Bool.{Bool, not, _&&_}
+use mathlib.Core.List.{List, [], _∷_}
+use lib.IntN.{ℤ, pos, natAbs}
+use lib.ListN.{drop, getD}
+use Rattle.form.specs.Signed.{isNeg}
+use Rattle.head.specs.Pattern.{patternOf, carriedOf}
+use Rattle.cell.specs.declared.Amounts.{Amounts}
+use Rattle.cell.specs.declared.Card.{Card}
+use Rattle.cell.specs.declared.Net.{Net}
+use Rattle.cell.specs.declared.Reading.{Reading}
+use Rattle.cell.specs.declared.Water.{Water}
+use Rattle.cell.specs.Water.{water, net}
+use Rattle.site.specs.declared.Sheet.{Sheet}
+use Rattle.text.specs.Readings.{carried}
+
+-- a card: cells, delays, 30 delay depths
+abbrev pub cardWidth : ℕ
+cardWidth = 32
+
+unfoldable pub cardOf : List ℕ → Card
+cardOf l = record { cells = getD l 0 0; delays = getD l 1 0; depths = drop 2 l }
+
+unfoldable pub cardNumbers : Card → List ℕ
+cardNumbers c = c .cells ∷ c .delays ∷ c .depths
+
+-- a reading: cell, life, count, rain, irrig, septic, etmin, pet, amc, and the head's 32 bits
+abbrev pub readingWidth : ℕ
+readingWidth = 10
+
+unfoldable pub readingOf : List ℕ → Reading
+readingOf l =
+    record {
+      cell = getD l 0 0;
+      life = getD l 1 0;
+      count = getD l 2 0;
+      rain = getD l 3 0;
+      irrig = getD l 4 0;
+      septic = getD l 5 0;
+      etmin = getD l 6 0;
+      pet = getD l 7 0;
+      amc = getD l 8 0;
+      head = carriedOf (getD l 9 0) .value;
+      nan = carriedOf (getD l 9 0) .nan;
+    }
+
+unfoldable pub readingNumbers : Reading → List ℕ
+readingNumbers r =
+    r .cell ∷ r .life ∷ r .count ∷ r .rain ∷ r .irrig ∷ r .septic ∷ r .etmin ∷ r .pet ∷ r .amc ∷ patternOf (carried r) ∷ []
+
+-- the ten amounts: inflow, runoff, etvad, etstor, etsat, drain, release, stored, recharge, left
+abbrev pub amountsWidth : ℕ
+amountsWidth = 10
+
+unfoldable pub amountNumbers : Amounts → List ℤ
+amountNumbers a =
+    pos (a .inflow .0) ∷ pos (a .runoff .0) ∷ pos (a .etvad .0) ∷ pos (a .etstor .0) ∷ pos (a .etsat .0) ∷ pos (a .drain .0) ∷ pos (a .release .0)
+    ∷ pos (a .stored .0) ∷ a .recharge .0 ∷ pos (a .left .0) ∷ []
+
+-- a number of a row as water, and as a net amount
+abbrev pub waterAt : List ℤ → ℕ → Water
+waterAt l i = water (natAbs (getD l i (pos 0)))
+
+abbrev pub netAt : List ℤ → ℕ → Net
+netAt l i = net (getD l i (pos 0))
+
+unfoldable pub amountsFrom : List ℤ → Amounts
+amountsFrom l =
+    record {
+      inflow = waterAt l 0;
+      runoff = waterAt l 1;
+      etvad = waterAt l 2;
+      etstor = waterAt l 3;
+      etsat = waterAt l 4;
+      drain = waterAt l 5;
+      release = waterAt l 6;
+      stored = waterAt l 7;
+      recharge = netAt l 8;
+      left = waterAt l 9;
+    }
+
+-- a sheet: its steps and the nine sums, in the order of the amounts
+abbrev pub sheetWidth : ℕ
+sheetWidth = 10
+
+unfoldable pub sheetNumbers : Sheet → List ℤ
+sheetNumbers s =
+    pos (s .steps) ∷ pos (s .inflow .0) ∷ pos (s .runoff .0) ∷ pos (s .etvad .0) ∷ pos (s .etstor .0) ∷ pos (s .etsat .0) ∷ pos (s .drain .0)
+    ∷ pos (s .release .0) ∷ pos (s .stored .0) ∷ s .recharge .0 ∷ []
+
+unfoldable pub sheetFrom : List ℤ → Sheet
+sheetFrom l =
+    record {
+      steps = natAbs (getD l 0 (pos 0));
+      inflow = waterAt l 1;
+      runoff = waterAt l 2;
+      etvad = waterAt l 3;
+      etstor = waterAt l 4;
+      etsat = waterAt l 5;
+      drain = waterAt l 6;
+      release = waterAt l 7;
+      stored = waterAt l 8;
+      recharge = netAt l 9;
+    }
+
+-- no number is negative but recharge, which may be
+abbrev pub notBelow : List ℤ → ℕ → Bool
+notBelow l i = not (isNeg (getD l i (pos 0)))
+
+unfoldable pub amountSigns : List ℤ → Bool
+amountSigns l =
+    notBelow l 0 && notBelow l 1 && notBelow l 2 && notBelow l 3 && notBelow l 4 && notBelow l 5 && notBelow l 6 && notBelow l 7 && notBelow l 9
+
+unfoldable pub sheetSigns : List ℤ → Bool
+sheetSigns l =
+    notBelow l 0 && notBelow l 1 && notBelow l 2 && notBelow l 3 && notBelow l 4 && notBelow l 5 && notBelow l 6 && notBelow l 7 && notBelow l 8

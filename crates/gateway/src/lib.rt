@@ -1,0 +1,164 @@
+// The static library of a gateway: the calls that a host in C or Rust makes. include/waterbook.h says what each number means.
+ghost use mathlib.Core.Path.{_≡_};
+ghost use Rattle.gateway.specs.Calls.{StepGives, ClearGives, AddGives, ReadsCard, ReadsReading, WritesCard, WritesReading};
+ghost use Rattle.journal.specs.Book.{BookGives};
+use cell::Answer;
+
+mod shapes;
+
+// One reading, given to the site.
+#[no_mangle]
+pub extern "C" fn waterbook_step(
+    card: &[u32],
+    soil: &[i64],
+    rows: &mut [u32],
+    reading: &[u32],
+    amounts: &mut [i64],
+) -> u32
+    ensures { λ n. ⌜ StepGives (now (card .entry)) (now (soil .entry)) (now (rows .entry)) (now (reading .entry)) (now (amounts .entry)) n (now (rows .exit)) (now (amounts .exit)) ⌝ }
+{
+    if card.len() != 32 {
+        return 255;
+    }
+    if reading.len() != 10 {
+        return 255;
+    }
+    if amounts.len() != 10 {
+        return 255;
+    }
+    let answer = site::step(
+        shapes::card_of(card),
+        soil,
+        rows,
+        shapes::reading_of(reading),
+    );
+    shapes::put_amounts(cell::amounts_of(answer), amounts);
+    cell::number_of(answer)
+}
+
+// Sets all rows of the site to 0.
+#[no_mangle]
+pub extern "C" fn waterbook_clear(card: &[u32], rows: &mut [u32]) -> u32
+    ensures { λ n. ⌜ ClearGives (now (card .entry)) (now (rows .entry)) n (now (rows .exit)) ⌝ }
+{
+    if card.len() != 32 {
+        return 255;
+    }
+    site::clear(shapes::card_of(card), rows)
+}
+
+// Adds an answer, its number and its amounts, to a sheet.
+#[no_mangle]
+pub extern "C" fn waterbook_add(sheet: &mut [i64], number: u32, amounts: &[i64]) -> u32
+    ensures { λ n. ⌜ AddGives (now (sheet .entry)) number (now (amounts .entry)) n (now (sheet .exit)) ⌝ }
+{
+    if sheet.len() != 10 {
+        return 255;
+    }
+    if amounts.len() != 10 {
+        return 255;
+    }
+    if number != 0 {
+        return 11;
+    }
+    if !shapes::sheet_signs(sheet) {
+        return 11;
+    }
+    if !shapes::amount_signs(amounts) {
+        return 11;
+    }
+    let added = shapes::sheet_from(sheet).add(Answer::Accepted(shapes::amounts_from(amounts)));
+    if added.number != 0 {
+        return added.number;
+    }
+    shapes::put_sheet(added.sheet, sheet);
+    0
+}
+
+// Reads a card at the start of a text.
+#[no_mangle]
+pub extern "C" fn waterbook_read_card(
+    text: &[u8],
+    card: &mut [u32],
+    soil: &mut [i64],
+    got: &mut [usize],
+) -> u32
+    ensures { λ n. ⌜ ReadsCard (now (text .entry)) (now (card .entry)) (now (soil .entry)) (now (got .entry)) n (now (card .exit)) (now (soil .exit)) (now (got .exit)) ⌝ }
+{
+    if card.len() != 32 {
+        return 255;
+    }
+    if got.len() != 2 {
+        return 255;
+    }
+    let r = text::card::read(text, soil);
+    shapes::put_card(r.card, card);
+    got[0] = r.taken;
+    got[1] = r.line;
+    r.number
+}
+
+// Writes a card with its soil numbers at the start of a buffer.
+#[no_mangle]
+pub extern "C" fn waterbook_write_card(
+    card: &[u32],
+    soil: &[i64],
+    buf: &mut [u8],
+    got: &mut [usize],
+) -> u32
+    ensures { λ n. ⌜ WritesCard (now (card .entry)) (now (soil .entry)) (now (buf .entry)) (now (got .entry)) n (now (buf .exit)) (now (got .exit)) ⌝ }
+{
+    if card.len() != 32 {
+        return 255;
+    }
+    if got.len() != 2 {
+        return 255;
+    }
+    let w = text::card::write(shapes::card_of(card), soil, buf);
+    got[0] = w.len;
+    got[1] = 0;
+    w.number
+}
+
+// Reads a reading at the start of a text.
+#[no_mangle]
+pub extern "C" fn waterbook_read_reading(text: &[u8], reading: &mut [u32], got: &mut [usize]) -> u32
+    ensures { λ n. ⌜ ReadsReading (now (text .entry)) (now (reading .entry)) (now (got .entry)) n (now (reading .exit)) (now (got .exit)) ⌝ }
+{
+    if reading.len() != 10 {
+        return 255;
+    }
+    if got.len() != 2 {
+        return 255;
+    }
+    let r = text::reading::read(text);
+    shapes::put_reading(r.reading, reading);
+    got[0] = r.taken;
+    got[1] = r.line;
+    r.number
+}
+
+// Writes a reading at the start of a buffer.
+#[no_mangle]
+pub extern "C" fn waterbook_write_reading(reading: &[u32], buf: &mut [u8], got: &mut [usize]) -> u32
+    ensures { λ n. ⌜ WritesReading (now (reading .entry)) (now (buf .entry)) (now (got .entry)) n (now (buf .exit)) (now (got .exit)) ⌝ }
+{
+    if reading.len() != 10 {
+        return 255;
+    }
+    if got.len() != 2 {
+        return 255;
+    }
+    let w = text::reading::write(shapes::reading_of(reading), buf);
+    got[0] = w.len;
+    got[1] = 0;
+    w.number
+}
+
+// Writes the book of a journal at the start of a buffer.
+#[no_mangle]
+pub extern "C" fn waterbook_book(journal: &[u8], buf: &mut [u8]) -> usize
+    ensures { λ n. ⌜ BookGives (now (journal .entry)) (now (buf .entry)) n (now (buf .exit)) ⌝ }
+{
+    journal::book(journal, buf)
+}
