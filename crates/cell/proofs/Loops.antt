@@ -1,42 +1,73 @@
 -- One turn, and the end, of each loop over a list: what the loops' invariants go by. Assumes nothing.
 use mathlib.Core.Path.{_≡_, refl, ap, sym, _∙_}
 use mathlib.Core.List.{List, [], _∷_, _++_, append-assoc}
-use mathlib.Core.Bool.{true, false}
+use mathlib.Core.Bool.{Bool, _&&_, and-assoc, and-true}
 use Prim.Native.Nat.{ℕ, zero, suc, _+_, _-_, _*_, _<_, _≤_, min}
 use native.Mathlib.Numerals.{add-one}
 use native.Mathlib.Omega.{arith}
-use borrow.Author.Tests.{le-leb, lt-leb}
-use lib.ListN.{length, getD, take, drop, set, drop-of-length-le}
-use lib.Seq.{drop-cons, drop-set-lt, take-suc-set, set-split}
+use borrow.Author.Tests.{le-leb, lt-leb, ne-eqb}
+use lib.ListN.{length, getD, take, drop, set, drop-of-length-le, length-drop}
+use lib.Seq.{take-all, drop-cons, drop-set-lt, take-suc-set, set-split}
+use lib.Dec.{leb, ltb, eqb}
 use Rattle.cell.specs.Ranges.{depthOk, depthsOk, slotsOk}
+use Rattle.cell.specs.Parts.{noneOf, risingFrom, heldUnder}
 use Rattle.cell.specs.Rules.{reachOf}
 use Rattle.cell.specs.Queue.{total, shifted, taken, spared, joined}
 
--- ---- the delay depths: refused at a place, or on to the next; none is left at the end
-pub depths-bad : (m p i : ℕ) (ds : List ℕ) → i < length ds → depthOk m p (getD ds i 0) ≡ false → depthsOk m p (drop i ds) ≡ false
-unfolding depthsOk
-depths-bad m p i ds l b = rw (drop-cons ds i 0, b)
+-- the rest of a list from a place is all of it from there
+pub rest-is : {A : Type 0} (at : ℕ) (l : List A) → take (length l - at) (drop at l) ≡ drop at l
+rest-is at l = take-all (length l - at) (drop at l) (omega (arith, length-drop at l))
 
-pub depths-good : (m p i : ℕ) (ds : List ℕ) → i < length ds → depthOk m p (getD ds i 0) ≡ true → depthsOk m p (drop i ds) ≡ depthsOk (m - 1) (getD ds i 0) (drop (i + 1) ds)
-unfolding depthsOk
-depths-good m p i ds l b = rw (drop-cons ds i 0, b, add-one)
+-- ---- a test of each number, gathered: what is known so far and the test of the rest come to the test of all
+pub none-turn : (ok : Bool) (i : ℕ) (v : List ℕ) → i < length v → (ok && noneOf (drop i v)) ≡ ((ok && eqb (getD v i 0) 0) && noneOf (drop (i + 1) v))
+unfolding noneOf
+none-turn ok i v h = rw (drop-cons v i 0 h, add-one i) (sym (and-assoc ok (eqb (getD v i 0) 0) (noneOf (drop (suc i) v))))
 
-pub depths-end : (m p i : ℕ) (ds : List ℕ) → length ds ≤ i → depthsOk m p (drop i ds) ≡ true
-unfolding depthsOk
-depths-end m p i ds l = rw (drop-of-length-le ds l)
+pub none-end : (ok : Bool) (i : ℕ) (v : List ℕ) → length v ≤ i → (ok && noneOf (drop i v)) ≡ ok
+unfolding noneOf
+none-end ok i v h = rw (drop-of-length-le v h) (and-true ok)
 
--- ---- the slots, the same
-pub slots-bad : (m i : ℕ) (q : List ℕ) → 2000000 * m < getD q i 0 → i < length q → slotsOk m (drop i q) ≡ false
-unfolding slotsOk
-slots-bad m i q b h = rw (drop-cons q i 0, lt-leb _ _ b)
+pub rising-turn : (ok : Bool) (p i : ℕ) (v : List ℕ) → i < length v
+    → (ok && risingFrom p (drop i v)) ≡ ((ok && (ltb p (getD v i 0) && leb (getD v i 0) 1000000000)) && risingFrom (getD v i 0) (drop (i + 1) v))
+unfolding risingFrom
+rising-turn ok p i v h = rw (drop-cons v i 0 h, add-one i) (sym (and-assoc ok (ltb p (getD v i 0) && leb (getD v i 0) 1000000000) (risingFrom (getD v i 0) (drop (suc i) v))))
 
-pub slots-good : (m i : ℕ) (q : List ℕ) → getD q i 0 ≤ 2000000 * m → i < length q → slotsOk m (drop i q) ≡ slotsOk (m - 1) (drop (i + 1) q)
-unfolding slotsOk
-slots-good m i q g h = rw (drop-cons q i 0, le-leb _ _ g, add-one)
+pub rising-end : (ok : Bool) (p i : ℕ) (v : List ℕ) → length v ≤ i → (ok && risingFrom p (drop i v)) ≡ ok
+unfolding risingFrom
+rising-end ok p i v h = rw (drop-of-length-le v h) (and-true ok)
 
-pub slots-end : (m n : ℕ) (q : List ℕ) → length q ≤ n → slotsOk m (drop n q) ≡ true
-unfolding slotsOk
-slots-end m n q h = rw (drop-of-length-le q h)
+pub held-turn : (ok : Bool) (l i : ℕ) (v : List ℕ) → i < length v → (ok && heldUnder l (drop i v)) ≡ ((ok && leb (getD v i 0) l) && heldUnder (l - 2000000) (drop (i + 1) v))
+unfolding heldUnder
+held-turn ok l i v h = rw (drop-cons v i 0 h, add-one i) (sym (and-assoc ok (leb (getD v i 0) l) (heldUnder (l - 2000000) (drop (suc i) v))))
+
+pub held-end : (ok : Bool) (l i : ℕ) (v : List ℕ) → length v ≤ i → (ok && heldUnder l (drop i v)) ≡ ok
+unfolding heldUnder
+held-end ok l i v h = rw (drop-of-length-le v h) (and-true ok)
+
+-- the depths in range are those in use rising and the others 0
+pub depths-split : (m p : ℕ) (ds : List ℕ) → depthsOk m p ds ≡ (risingFrom p (take m ds) && noneOf (drop m ds))
+unfolding depthOk depthsOk noneOf risingFrom
+depths-split zero p [] = refl
+depths-split (suc m) p [] = refl
+depths-split zero p (d ∷ ds) = ap (λ (b : Bool). eqb d 0 && b) (depths-split zero d ds)
+depths-split (suc m) p (d ∷ ds) =
+    let e : suc m - 1 ≡ m = omega arith in
+    rw (e, depths-split m d ds) (sym (and-assoc (ltb p d && leb d 1000000000) (risingFrom d (take m ds)) (noneOf (drop m ds))))
+
+-- and the slots are those in use below their limits and the others 0
+at-most-none : (s : ℕ) → leb s 0 ≡ eqb s 0
+at-most-none zero = refl
+at-most-none (suc s) = lt-leb (suc s) 0 (omega arith) ∙ sym (ne-eqb (suc s) 0 (λ z. omega arith))
+
+pub slots-split : (m : ℕ) (q : List ℕ) → slotsOk m q ≡ (heldUnder (2000000 * m) (take m q) && noneOf (drop m q))
+unfolding slotsOk noneOf heldUnder
+slots-split zero [] = refl
+slots-split (suc m) [] = refl
+slots-split zero (s ∷ ss) = rw (at-most-none s) (ap (λ (b : Bool). eqb s 0 && b) (slots-split zero ss))
+slots-split (suc m) (s ∷ ss) =
+    let e : suc m - 1 ≡ m = omega arith in
+    let l : 2000000 * suc m - 2000000 ≡ 2000000 * m = omega arith in
+    rw (e, l, slots-split m ss) (sym (and-assoc (leb s (2000000 * suc m)) (heldUnder (2000000 * m) (take m ss)) (noneOf (drop m ss))))
 
 -- ---- the sum of the slots
 pub total-at : (i : ℕ) (q : List ℕ) → i < length q → total (drop i q) ≡ getD q i 0 + total (drop (i + 1) q)

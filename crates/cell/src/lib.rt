@@ -131,9 +131,12 @@ pub fn amounts_of(answer: Answer) -> Amounts
 pub fn card_ok(card: Card) -> bool
     ensures { λ r. ⌜ r ≡ cardOk card ⌝ }
 {
+    if 30 < card.delays {
+        return false;
+    }
     let depths = card.depths;
     let rising = ranges::depths_ok(depths, card.delays);
-    (1 <= card.cells) & (card.cells <= 256) & (card.delays <= 30) & rising
+    (1 <= card.cells) & (card.cells <= 256) & rising
 }
 
 // One reading, given to one plot: its card, its five soil numbers, its row. Refused, the row stays as it came.

@@ -1,10 +1,12 @@
 // Numbers and their ranges.
 ghost use mathlib.Core.Path.{_≡_};
 ghost use mathlib.Core.Bool.{true};
-ghost use Prim.Native.Nat.{_-_};
+ghost use Prim.Native.Nat.{_-_, _*_, _≤_};
 ghost use lib.IntN.{pos, natAbs};
+ghost use lib.ListN.{length};
 ghost use lib.Signed.{leZ};
-ghost use Rattle.cell.specs.Ranges.{depthOk, depthsOk, within, soilOk, soilOf, slotsOk, rowOk, fieldsOk};
+ghost use Rattle.cell.specs.Parts.{noneOf, risingFrom, heldUnder};
+ghost use Rattle.cell.specs.Ranges.{depthsOk, within, soilOk, soilOf, slotsOk, rowOk, fieldsOk};
 use crate::Reading;
 use head::Height;
 
@@ -24,33 +26,43 @@ pub fn less(a: u32, b: u32) -> u32
     if a < b { 0 } else { a - b }
 }
 
-// One place of the delay depths, with `left` places in use from it on and `before` in the place before it.
-fn depth_ok(left: u32, before: u32, d: u32) -> bool
-    ensures { λ r. ⌜ r ≡ depthOk left before d ⌝ }
+// Whether all numbers are 0. It looks at each, so that several can be looked at at once.
+fn none(v: &[u32]) -> bool
+    ensures { λ r. ⌜ r ≡ noneOf (now (v .entry)) ⌝ }
 {
-    if left == 0 {
-        d == 0
-    } else {
-        (before < d) & (d <= 1000000000)
+    let mut ok = true;
+    let mut i = 0;
+    while i < v.len() {
+        ok = ok & (v[i] == 0);
+        i += 1;
     }
+    ok
+}
+
+// Whether the delay depths in use rise from above 0, none above 1,000,000,000.
+fn rising(used: &[u32]) -> bool
+    ensures { λ r. ⌜ r ≡ risingFrom 0 (now (used .entry)) ⌝ }
+{
+    let mut ok = true;
+    let mut before: u32 = 0;
+    let mut i = 0;
+    while i < used.len() {
+        let d = used[i];
+        ok = ok & ((before < d) & (d <= 1000000000));
+        before = d;
+        i += 1;
+    }
+    ok
 }
 
 pub fn depths_ok(depths: [u32; 30], m: u32) -> bool
+    requires { ⌜ m ≤ 30 ⌝ }
     ensures { λ r. ⌜ r ≡ depthsOk m 0 depths ⌝ }
 {
-    let mut left = m;
-    let mut before: u32 = 0;
-    let mut i: usize = 0;
-    while i < 30 {
-        let d = depths[i];
-        if !depth_ok(left, before, d) {
-            return false;
-        }
-        before = d;
-        left = less(left, 1);
-        i += 1;
-    }
-    true
+    let n = m as usize;
+    let used = rising(&depths[..n]);
+    let unused = none(&depths[n..]);
+    used & unused
 }
 
 fn in_range(low: i64, high: i64, z: i64) -> bool
@@ -96,23 +108,35 @@ pub fn soil_of(s: &[i64]) -> Soil
     }
 }
 
-fn slots_ok(slots: &[u32], m: u32) -> bool
-    ensures { λ r. ⌜ r ≡ slotsOk m (now (slots .entry)) ⌝ }
+// Whether each slot in use holds at most its limit, `most` at the first and 2,000,000 less at each after it.
+fn held(used: &[u32], most: u32) -> bool
+    requires { ⌜ 2000000 * length (now used) ≤ most ⌝ }
+    ensures { λ r. ⌜ r ≡ heldUnder most (now (used .entry)) ⌝ }
 {
-    let mut left = m;
+    let mut ok = true;
+    let mut limit = most;
     let mut i = 0;
-    while i < slots.len() {
-        if 2000000 * (left as u64) < (slots[i] as u64) {
-            return false;
-        }
-        left = less(left, 1);
+    while i < used.len() {
+        ok = ok & (used[i] <= limit);
+        limit -= 2000000;
         i += 1;
     }
-    true
+    ok
+}
+
+fn slots_ok(slots: &[u32], m: u32) -> bool
+    requires { ⌜ (m ≤ 30) × (length (now slots) ≡ 30) ⌝ }
+    ensures { λ r. ⌜ r ≡ slotsOk m (now (slots .entry)) ⌝ }
+{
+    let n = m as usize;
+    let used = held(&slots[..n], 2000000 * m);
+    let unused = none(&slots[n..]);
+    used & unused
 }
 
 // A stored row is in range.
 pub fn row_ok(row: &[u32], m: u32) -> bool
+    requires { ⌜ m ≤ 30 ⌝ }
     ensures { λ r. ⌜ r ≡ rowOk m (now (row .entry)) ⌝ }
 {
     if row.len() != 32 {

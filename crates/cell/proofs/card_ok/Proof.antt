@@ -1,15 +1,23 @@
 -- `cell::card_ok` meets its contract. Assumes nothing.
 use Rattle.cell.specs.Ranges.{cardOk}
+use lib.Dec.{leb}
+use borrow.Author.Tests.{le-leb, lt-leb}
+use mathlib.Core.Bool.{_&&_, and-true, and-false}
+use mathlib.Core.Path.{sym}
 use borrow.Author.Needs.{needs}
 use Rattle.cell.proofs.card_ok.Statement.{statement}
 use Rattle.cell.proofs.card_ok.Tie as tie
 
+returns : tie.Need-returns
+unfolding cardOk
+returns c = sym (rw (lt-leb _ 30 (c .if1 .taken), and-false (leb 1 (c .before .before .args .card .cells) && leb (c .before .before .args .card .cells) 256)))
+
 depths-ok-requires : tie.Need-depths-ok-requires
 depths-ok-requires c κs = search needs
 
-returns : tie.Need-returns
+returns-2 : tie.Need-returns-2
 unfolding cardOk
-returns c = rw (c .before .before .before .depths-ok .ensures)
+returns-2 c = rw (c .before .before .depths-ok .ensures, le-leb _ 30 (c .before .before .before .before .if1 .left), and-true (leb 1 (c .before .before .before .before .before .before .args .card .cells) && leb (c .before .before .before .before .before .before .args .card .cells) 256))
 
 pub card-ok-spec : {M : Type 1} → statement M
-card-ok-spec = tie.close (tie.spec depths-ok-requires returns)
+card-ok-spec = tie.close (tie.spec returns depths-ok-requires returns-2)

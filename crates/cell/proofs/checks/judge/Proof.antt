@@ -15,7 +15,7 @@ use Rattle.cell.specs.declared.Reading.{Reading}
 use Rattle.cell.specs.declared.Refusal.the-variants.{BadCard, BadSoil, BadRow, Old, Gap, BadReading}
 use Rattle.cell.specs.Ranges.{cardOk, soilOk, rowOk, fieldsOk, lifeOf, nextOf}
 use Rattle.cell.specs.Refusals.{isOld, isGap, sounded, unless, verdictOf}
-use Rattle.cell.specs.RangeLaws.{row-in, soil-in}
+use Rattle.cell.specs.RangeLaws.{card-in, row-in, soil-in}
 use Rattle.cell.proofs.checks.judge.Statement.{statement}
 use Rattle.cell.proofs.checks.judge.Tie as tie
 
@@ -57,7 +57,7 @@ returns-2 c =
     by-checks (s .card) (s .soil .now) (s .row .now) (s .r) (card-good (c .before .before)) (sym (c .before .soil-ok .ensures) ∙ not-true _ (c .if2 .taken)) refl refl refl refl
 
 row-ok-requires : tie.Need-row-ok-requires
-row-ok-requires c κs = search needs
+row-ok-requires c κs = card-in _ (card-good (c .before .before)) .delays
 
 returns-3 : tie.Need-returns-3
 unfolding unless
