@@ -1,0 +1,383 @@
+//! Which branches of the rules an accepted step went through, and what a refused one was refused for.
+
+use crate::heads;
+use crate::tally::Tally;
+use second::head::depth;
+use second::numbers::{slot_limit, Amounts, Card, Reading};
+use second::rules::{curve_number, delay, storm_runoff};
+
+/// The branches of the eleven steps that must be met.
+pub const BRANCHES: &[&str] = &[
+    "1 shift, no delays",
+    "1 shift, nothing released",
+    "1 shift, water released",
+    "2 curve number, amc 1",
+    "2 curve number, amc 2",
+    "2 curve number, amc 3",
+    "2 curve number, raised to 1",
+    "3 storm runoff, X below 0",
+    "3 storm runoff, X = 0",
+    "3 storm runoff, X above 0",
+    "4 delay, none on the card",
+    "4 delay, table above the first depth",
+    "4 delay, some depth",
+    "4 delay, last depth",
+    "4 delay, exactly at a depth",
+    "4 delay, 1 µm above a depth",
+    "5 runoff, table above the top",
+    "5 runoff, table at the top",
+    "5 runoff, pores fill",
+    "5 runoff, pores exactly hold G",
+    "5 runoff, pores hold more than G",
+    "5 runoff, delay and less room than G",
+    "5 runoff, delay and room",
+    "6 etvad, G - runoff least",
+    "6 etvad, pet least",
+    "6 etvad, etmin + irrig least",
+    "7 etstor, no lack",
+    "7 etstor, lack over a table at or above the top",
+    "7 etstor, lack and nothing waits",
+    "7 etstor, lack drawn in full",
+    "7 etstor, lack drawn in part",
+    "8 etsat, table at or above the top",
+    "8 etsat, table within etdepth",
+    "8 etsat, table at etdepth",
+    "8 etsat, table below etdepth",
+    "9 drain, some",
+    "9 drain, leak 0",
+    "9 drain, less than 1 µm",
+    "10 deposit, into a slot",
+    "10 deposit, joins water in a slot",
+    "10 deposit, fills a slot to its limit",
+    "10 deposit, nothing",
+    "10 direct",
+    "11 recharge above 0",
+    "11 recharge 0",
+    "11 recharge below 0",
+    "11 recharge, septic and a delay",
+];
+
+/// What refused steps must be refused for.
+pub const REFUSALS: &[&str] = &[
+    "1 cells",
+    "1 delays",
+    "1 depth 0",
+    "1 depth too large",
+    "1 depths equal",
+    "1 depths falling",
+    "1 unused place",
+    "2 soil short",
+    "2 soil long",
+    "2 rows short",
+    "2 rows long",
+    "3 cell",
+    "4 top low",
+    "4 top high",
+    "4 etdepth low",
+    "4 etdepth high",
+    "4 vadpor low",
+    "4 vadpor high",
+    "4 leak low",
+    "4 leak high",
+    "4 cn low",
+    "4 cn high",
+    "5 life",
+    "5 next count",
+    "5 slot above its limit",
+    "5 slot above M",
+    "6 life lower",
+    "6 count lower",
+    "7 count higher",
+    "7 life higher and count not 0",
+    "8 life",
+    "8 count",
+    "8 rain",
+    "8 irrig",
+    "8 septic",
+    "8 etmin",
+    "8 pet",
+    "8 etmin above pet",
+    "8 amc 0",
+    "8 amc above 3",
+    "9 head",
+    "10 head",
+    "255 card",
+    "255 reading",
+    "255 amounts",
+];
+
+/// A step's card, the named cell's soil numbers, its row after the step, the reading and the answer.
+pub struct Met<'a> {
+    pub card: &'a Card,
+    pub soil: &'a [i64],
+    pub after: &'a [u32],
+    pub reading: &'a Reading,
+    pub answer: &'a Amounts,
+}
+
+/// Note the branches of an accepted step.
+pub fn accepted(met: &Met, tally: &mut Tally) {
+    let d = depth(met.soil[0], met.reading.head).unwrap_or(0);
+    let k = delay(met.card, d);
+    tally.meet("heads met by the head's check", heads::class(met.reading.head));
+    for name in [shift(met), curve(met), storm(met), which_delay(met, k), runoff(met, d, k)] {
+        tally.meet("branches", name);
+    }
+    for name in [etvad(met), etstor(met, d), etsat(met, d), recharge(met.answer)] {
+        tally.meet("branches", name);
+    }
+    for name in near_a_depth(met, d).into_iter().chain(drain(met, d)).chain(deposit(met, k)) {
+        tally.meet("branches", name);
+    }
+    if curve_number(met.soil[4], met.reading.amc) == 1 && met.soil[4] == 1 && met.reading.amc == 1 {
+        tally.meet("branches", "2 curve number, raised to 1");
+    }
+    if met.reading.septic > 0 && k > 0 {
+        tally.meet("branches", "11 recharge, septic and a delay");
+    }
+}
+
+fn shift(met: &Met) -> &'static str {
+    match (met.card.delays, met.answer.release) {
+        (0, _) => "1 shift, no delays",
+        (_, 0) => "1 shift, nothing released",
+        _ => "1 shift, water released",
+    }
+}
+
+fn curve(met: &Met) -> &'static str {
+    match met.reading.amc {
+        1 => "2 curve number, amc 1",
+        2 => "2 curve number, amc 2",
+        _ => "2 curve number, amc 3",
+    }
+}
+
+fn storm(met: &Met) -> &'static str {
+    let c = curve_number(met.soil[4], met.reading.amc);
+    match c * i64::from(met.reading.rain) - 50_800 * (100 - c) {
+        0 => "3 storm runoff, X = 0",
+        x if x < 0 => "3 storm runoff, X below 0",
+        _ => "3 storm runoff, X above 0",
+    }
+}
+
+fn which_delay(met: &Met, k: usize) -> &'static str {
+    match (met.card.delays as usize, k) {
+        (0, _) => "4 delay, none on the card",
+        (_, 0) => "4 delay, table above the first depth",
+        (m, k) if k < m => "4 delay, some depth",
+        _ => "4 delay, last depth",
+    }
+}
+
+fn near_a_depth(met: &Met, d: i64) -> Option<&'static str> {
+    let has = |depth: i64| met.card.used().iter().any(|used| i64::from(*used) == depth);
+    if has(d) {
+        Some("4 delay, exactly at a depth")
+    } else if has(d + 1) {
+        Some("4 delay, 1 µm above a depth")
+    } else {
+        None
+    }
+}
+
+fn runoff(met: &Met, d: i64, k: usize) -> &'static str {
+    let g = i64::from(met.reading.rain) + i64::from(met.reading.irrig);
+    let room = d.saturating_mul(met.soil[2]);
+    match (d, k) {
+        (0, _) => "5 runoff, table at the top",
+        (d, _) if d < 0 => "5 runoff, table above the top",
+        (_, 0) if room < 1000 * g => "5 runoff, pores fill",
+        (_, 0) if room == 1000 * g => "5 runoff, pores exactly hold G",
+        (_, 0) => "5 runoff, pores hold more than G",
+        _ if room < 1000 * g => "5 runoff, delay and less room than G",
+        _ => "5 runoff, delay and room",
+    }
+}
+
+fn etvad(met: &Met) -> &'static str {
+    let (r, a) = (met.reading, met.answer);
+    let here = i64::from(r.rain) + i64::from(r.irrig) - a.runoff;
+    let (pet, least) = (i64::from(r.pet), i64::from(r.etmin) + i64::from(r.irrig));
+    if here < pet.min(least) {
+        "6 etvad, G - runoff least"
+    } else if pet < least {
+        "6 etvad, pet least"
+    } else {
+        "6 etvad, etmin + irrig least"
+    }
+}
+
+fn etstor(met: &Met, d: i64) -> &'static str {
+    let lack = i64::from(met.reading.etmin) - met.answer.etvad;
+    match met.answer.etstor {
+        _ if lack <= 0 => "7 etstor, no lack",
+        _ if d <= 0 => "7 etstor, lack over a table at or above the top",
+        0 => "7 etstor, lack and nothing waits",
+        drawn if drawn < lack => "7 etstor, lack drawn in part",
+        _ => "7 etstor, lack drawn in full",
+    }
+}
+
+fn etsat(met: &Met, d: i64) -> &'static str {
+    match d.cmp(&met.soil[1]) {
+        _ if d <= 0 => "8 etsat, table at or above the top",
+        std::cmp::Ordering::Less => "8 etsat, table within etdepth",
+        std::cmp::Ordering::Equal => "8 etsat, table at etdepth",
+        std::cmp::Ordering::Greater => "8 etsat, table below etdepth",
+    }
+}
+
+fn drain(met: &Met, d: i64) -> Option<&'static str> {
+    match (met.soil[3], met.answer.drain) {
+        _ if d >= 0 => None,
+        (0, _) => Some("9 drain, leak 0"),
+        (_, 0) => Some("9 drain, less than 1 µm"),
+        _ => Some("9 drain, some"),
+    }
+}
+
+fn deposit(met: &Met, k: usize) -> Option<&'static str> {
+    let direct =
+        met.answer.inflow - i64::from(met.reading.septic) - met.answer.runoff - met.answer.etvad;
+    match (k, met.answer.stored) {
+        (0, _) if direct > 0 => Some("10 direct"),
+        (0, _) => None,
+        (_, 0) => Some("10 deposit, nothing"),
+        _ if met.after[1 + k] == slot_limit(k as u32, met.card.delays) => {
+            Some("10 deposit, fills a slot to its limit")
+        }
+        (_, stored) if i64::from(met.after[1 + k]) > stored => {
+            Some("10 deposit, joins water in a slot")
+        }
+        _ => Some("10 deposit, into a slot"),
+    }
+}
+
+fn recharge(answer: &Amounts) -> &'static str {
+    match answer.recharge {
+        0 => "11 recharge 0",
+        r if r < 0 => "11 recharge below 0",
+        _ => "11 recharge above 0",
+    }
+}
+
+/// Note what a refused step was refused for; the slices are as they were lent.
+pub fn refused(
+    number: u32,
+    card: &Card,
+    soil: &[i64],
+    rows: &[u32],
+    r: &Reading,
+    tally: &mut Tally,
+) {
+    let cell = r.cell as usize;
+    let name = match number {
+        1 => card_fault(card),
+        2 => length_fault(card, soil, rows),
+        3 => "3 cell",
+        4 => soil_fault(&soil[5 * cell..5 * cell + 5]),
+        5 => row_fault(&rows[32 * cell..32 * cell + 32], card.delays),
+        6 if r.life < rows[32 * cell] => "6 life lower",
+        6 => "6 count lower",
+        7 if r.life > rows[32 * cell] => "7 life higher and count not 0",
+        7 => "7 count higher",
+        8 => field_fault(r),
+        9 => "9 head",
+        _ => "10 head",
+    };
+    tally.meet("refused for", name);
+    if number >= 9 {
+        tally.meet("heads met by the head's check", heads::class(r.head));
+    }
+}
+
+fn card_fault(card: &Card) -> &'static str {
+    if !(1..=256).contains(&card.cells) {
+        return "1 cells";
+    }
+    if card.delays > 30 {
+        return "1 delays";
+    }
+    let used = card.used();
+    if used.contains(&0) {
+        "1 depth 0"
+    } else if used.iter().any(|depth| *depth > 1_000_000_000) {
+        "1 depth too large"
+    } else if used.windows(2).any(|two| two[0] > two[1]) {
+        "1 depths falling"
+    } else if used.windows(2).any(|two| two[0] == two[1]) {
+        "1 depths equal"
+    } else {
+        "1 unused place"
+    }
+}
+
+fn length_fault(card: &Card, soil: &[i64], rows: &[u32]) -> &'static str {
+    let cells = card.cells as usize;
+    match (soil.len(), rows.len()) {
+        (length, _) if length < 5 * cells => "2 soil short",
+        (length, _) if length > 5 * cells => "2 soil long",
+        (_, length) if length < 32 * cells => "2 rows short",
+        _ => "2 rows long",
+    }
+}
+
+fn soil_fault(soil: &[i64]) -> &'static str {
+    const RANGES: [(i64, i64, &str, &str); 5] = [
+        (-10_000_000_000, 10_000_000_000, "4 top low", "4 top high"),
+        (1, 100_000_000, "4 etdepth low", "4 etdepth high"),
+        (1, 1000, "4 vadpor low", "4 vadpor high"),
+        (0, 1_000_000, "4 leak low", "4 leak high"),
+        (1, 100, "4 cn low", "4 cn high"),
+    ];
+    for (number, (low, high, below, above)) in soil.iter().zip(RANGES) {
+        if *number < low {
+            return below;
+        }
+        if *number > high {
+            return above;
+        }
+    }
+    "no soil number is out of range"
+}
+
+fn row_fault(row: &[u32], delays: u32) -> &'static str {
+    if row[0] > 65_535 {
+        "5 life"
+    } else if row[1] > 1_000_000 {
+        "5 next count"
+    } else if row[2 + delays as usize..].iter().any(|slot| *slot > 0) {
+        "5 slot above M"
+    } else {
+        "5 slot above its limit"
+    }
+}
+
+fn field_fault(r: &Reading) -> &'static str {
+    let fields = [
+        (r.life, 65_535, "8 life"),
+        (r.count, 999_999, "8 count"),
+        (r.rain, 1_000_000, "8 rain"),
+        (r.irrig, 1_000_000, "8 irrig"),
+        (r.septic, 1_000_000, "8 septic"),
+        (r.etmin, 1_000_000, "8 etmin"),
+        (r.pet, 1_000_000, "8 pet"),
+        (r.amc, 3, "8 amc above 3"),
+    ];
+    match fields.iter().find(|(field, most, _)| field > most) {
+        Some((_, _, name)) => name,
+        None if r.amc == 0 => "8 amc 0",
+        None => "8 etmin above pet",
+    }
+}
+
+/// Storm runoff exactly at an edge: the rain at which X first passes 0 for a curve number.
+pub fn rain_at_the_edge(c: i64) -> i64 {
+    let mut rain = 50_800 * (100 - c) / c;
+    while storm_runoff(c, rain) == 0 && rain < 1_000_000 {
+        rain += 1;
+    }
+    rain
+}

@@ -1,0 +1,117 @@
+//! The comparison: `compare WATERBOOK SEED ROUNDS [FIRST]` gives the same made inputs to the proved code
+//! and to the second program, and holds all that the one answers to the other's answers.
+
+mod branches;
+mod heads;
+mod journals;
+mod lent;
+mod numbers;
+mod sheets;
+mod steps;
+mod tally;
+mod texts;
+#[allow(dead_code)]
+#[path = "../gateway/waterbook.rs"]
+mod waterbook;
+mod wild;
+
+use second::made::dice::Dice;
+use std::process::ExitCode;
+use tally::Tally;
+
+/// All that must be met, by heading.
+const MUST: &[(&str, &[&str])] = &[
+    ("branches", branches::BRANCHES),
+    ("refused for", branches::REFUSALS),
+    ("heads met by the head's check", heads::CLASSES),
+    ("sheets", sheets::REFUSALS),
+    ("texts", texts::TEXTS),
+    ("journals", journals::JOURNALS),
+];
+
+/// What the comparison is asked to do.
+struct Asked {
+    program: String,
+    seed: u64,
+    rounds: u64,
+    /// The first round; given only to go through some rounds again.
+    first: Option<u64>,
+}
+
+/// The words of the command line.
+fn asked() -> Option<Asked> {
+    let mut words = std::env::args().skip(1);
+    let program = words.next()?;
+    let numbers: Option<Vec<u64>> = words.map(|word| word.parse().ok()).collect();
+    match numbers?[..] {
+        [seed, rounds] => Some(Asked { program, seed, rounds, first: None }),
+        [seed, rounds, first] => Some(Asked { program, seed, rounds, first: Some(first) }),
+        _ => None,
+    }
+}
+
+/// The dice of one round.
+fn dice_of(seed: u64, round: u64) -> Dice {
+    let mut stirred = Dice::new(seed ^ 0x77a7_e2b0_0c5e_ed00);
+    Dice::new(stirred.roll().wrapping_add(round.wrapping_mul(0x9fb2_1c65_1e98_df25)))
+}
+
+/// One round: a run of days, wild steps, clearings, sheets, texts and journals.
+fn round(asked: &Asked, round: u64, tally: &mut Tally) -> Result<(), String> {
+    let dice = &mut dice_of(asked.seed, round);
+    let days = 200 + dice.below(1000);
+    steps::run(dice, tally, days)?;
+    steps::wild_steps(dice, tally, 100)?;
+    steps::wild_steps(dice, tally, 100)?;
+    steps::clearings(dice, tally, 10)?;
+    sheets::wild_sheets(dice, tally, 200)?;
+    for _ in 0..40 {
+        texts::read_reading(dice, tally)?;
+        texts::write_reading(dice, tally)?;
+        texts::read_card(dice, tally)?;
+        texts::write_card(dice, tally)?;
+    }
+    for place in 0..8 {
+        journals::by_call(dice, asked.seed, 8 * round + place, tally)?;
+    }
+    if round % 5 == 0 {
+        let place = u64::MAX / 2 + round;
+        journals::by_program(dice, (asked.seed, place), &asked.program, tally)?;
+    }
+    Ok(())
+}
+
+/// All rounds: the first difference, if there is one.
+fn rounds(asked: &Asked, tally: &mut Tally) -> Result<(), String> {
+    let first = asked.first.unwrap_or(0);
+    for place in first..first + asked.rounds {
+        round(asked, place, tally).map_err(|what| {
+            let seed = asked.seed;
+            format!("difference: seed={seed} round={place}: {what}\ndifference: seed={seed} round={place}")
+        })?;
+    }
+    Ok(())
+}
+
+fn main() -> ExitCode {
+    let Some(asked) = asked() else {
+        eprintln!("usage: compare WATERBOOK SEED ROUNDS [FIRST]");
+        return ExitCode::from(2);
+    };
+    println!("compare: seed={} rounds={}", asked.seed, asked.rounds);
+    let mut tally = Tally::default();
+    if let Err(difference) = rounds(&asked, &mut tally) {
+        println!("{difference}");
+        return ExitCode::FAILURE;
+    }
+    tally.print();
+    let missing = if asked.first.is_some() { Vec::new() } else { tally.missing() };
+    for thing in &missing {
+        println!("not met: seed={} {thing}", asked.seed);
+    }
+    if !missing.is_empty() {
+        return ExitCode::FAILURE;
+    }
+    println!("compare: no difference, seed={}", asked.seed);
+    ExitCode::SUCCESS
+}

@@ -1,0 +1,264 @@
+//! Steps, clearings and sheets: the proved code through the library against the second program.
+
+use crate::branches::{accepted, refused, Met};
+use crate::lent::{equal, same, Lent};
+use crate::numbers::{amounts_numbers, card_numbers, card_of, reading_numbers, reading_of};
+use crate::tally::Tally;
+use crate::waterbook::{self, AMOUNTS, CARD, NOT_THE_COUNT, READING, ROW, SOIL};
+use crate::{heads, sheets, wild};
+use second::made::dice::Dice;
+use second::made::readings::next_reading;
+use second::made::site::Site;
+use second::made::wet::{wet_reading, wet_site};
+
+/// What a step is given, in numbers; the slices may have any length.
+#[derive(Clone, Debug)]
+struct Given {
+    card: Vec<u32>,
+    soil: Vec<i64>,
+    rows: Vec<u32>,
+    reading: Vec<u32>,
+    amounts: Vec<i64>,
+}
+
+/// The slices lent to the library for a run of steps.
+struct Slices {
+    card: Lent<u32>,
+    soil: Lent<i64>,
+    rows: Lent<u32>,
+    reading: Lent<u32>,
+    amounts: Lent<i64>,
+}
+
+impl Slices {
+    /// Slices that hold what is given.
+    fn lend(given: &Given) -> Slices {
+        Slices {
+            card: Lent::new(&given.card, 0xa5a5_a5a5),
+            soil: Lent::new(&given.soil, -77),
+            rows: Lent::new(&given.rows, 0x5a5a_5a5a),
+            reading: Lent::new(&given.reading, 0xc3c3_c3c3),
+            amounts: Lent::new(&given.amounts, -99),
+        }
+    }
+
+    /// The library's step.
+    fn step(&mut self) -> u32 {
+        let (card, soil, reading) = (self.card.held(), self.soil.held(), self.reading.held());
+        waterbook::step(card, soil, self.rows.slice(), reading, self.amounts.slice())
+    }
+
+    /// All slices against what is given, and the amounts against the second's.
+    fn same(&self, given: &Given) -> Result<(), String> {
+        same("amounts", &self.amounts, &given.amounts)?;
+        same("rows", &self.rows, &given.rows)?;
+        same("card", &self.card, &given.card)?;
+        same("soil", &self.soil, &given.soil)?;
+        same("reading", &self.reading, &given.reading)
+    }
+}
+
+/// The second's step on what is given: its number; rows and amounts as they are after it.
+fn second_step(given: &mut Given, tally: &mut Tally) -> u32 {
+    if let Some(name) = wrong_count(given) {
+        tally.meet("refused for", name);
+        return NOT_THE_COUNT;
+    }
+    let (card, reading) = (card_of(&given.card), reading_of(&given.reading));
+    let (number, answer) = second::step::step(&card, &given.soil, &mut given.rows, &reading);
+    given.amounts.copy_from_slice(&amounts_numbers(&answer));
+    if number == 0 {
+        let cell = reading.cell as usize;
+        let (soil, after) = (&given.soil[SOIL * cell..], &given.rows[ROW * cell..]);
+        let (card, reading, answer) = (&card, &reading, &answer);
+        accepted(&Met { card, soil, after, reading, answer }, tally);
+    } else {
+        refused(number, &card, &given.soil, &given.rows, &reading, tally);
+    }
+    number
+}
+
+/// The first slice that has not its count of numbers, if one has not.
+fn wrong_count(given: &Given) -> Option<&'static str> {
+    if given.card.len() != CARD {
+        Some("255 card")
+    } else if given.reading.len() != READING {
+        Some("255 reading")
+    } else if given.amounts.len() != AMOUNTS {
+        Some("255 amounts")
+    } else {
+        None
+    }
+}
+
+/// One step by both, held to each other; the number and the second's amounts.
+fn both(given: &mut Given, slices: &mut Slices, tally: &mut Tally) -> Result<u32, String> {
+    let number = second_step(given, tally);
+    let answered = slices.step();
+    tally.steps += 1;
+    tally.number("step", number);
+    equal("number", answered, number)?;
+    slices.same(given)?;
+    Ok(number)
+}
+
+/// What a site gives, with amounts that hold something else before the step.
+fn given_by(site: &Site) -> Given {
+    Given {
+        card: card_numbers(&site.card).to_vec(),
+        soil: site.soil.clone(),
+        rows: site.rows.clone(),
+        reading: vec![0; READING],
+        amounts: vec![-1; AMOUNTS],
+    }
+}
+
+/// Put a reading into what is given and into the lent slice.
+fn take(given: &mut Given, slices: &mut Slices, reading: &[u32]) {
+    given.reading.copy_from_slice(reading);
+    slices.reading.slice().copy_from_slice(reading);
+}
+
+/// Many days of a site, each answer added to a sheet on both sides.
+pub fn run(dice: &mut Dice, tally: &mut Tally, days: u64) -> Result<(), String> {
+    let wet = dice.once_in(5);
+    let mut site = if wet { wet_site(dice) } else { Site::made(dice) };
+    let weather = dice.pick(&[4, 12, 1000]);
+    let mut given = given_by(&site);
+    let mut slices = Slices::lend(&given);
+    let mut sums = sheets::Pair::empty();
+    for day in 0..days {
+        let mut reading = if wet {
+            // The delay falls by one each day, so that one slot gathers all.
+            let delay =
+                (u64::from(site.card.delays) - day % u64::from(site.card.delays + 1)) as u32;
+            reading_numbers(&wet_reading(&site, dice, delay, weather))
+        } else {
+            reading_numbers(&next_reading(&site, dice))
+        };
+        if dice.once_in(12) {
+            reading[9] = heads::made(dice);
+        }
+        take(&mut given, &mut slices, &reading);
+        let number = both(&mut given, &mut slices, tally).map_err(|what| {
+            format!("step, day {day} of a run\n{what}\n{}", told(&site, &reading))
+        })?;
+        sums.add(number, &given.amounts, tally)?;
+        site.rows.copy_from_slice(&given.rows);
+    }
+    Ok(())
+}
+
+/// What a step of a run was given, in words.
+fn told(site: &Site, reading: &[u32]) -> String {
+    let cell = reading[0] as usize;
+    let (plot, row) = (site.soil.chunks(SOIL).nth(cell), site.rows.chunks(ROW).nth(cell));
+    format!("card {:?}\nsoil {plot:?}\nrow {row:?}\nreading {reading:?}", site.card)
+}
+
+/// A site of few cells.
+pub fn small_site(dice: &mut Dice) -> Site {
+    loop {
+        let site = Site::made(dice);
+        if site.card.cells <= 4 || dice.once_in(200) {
+            return site;
+        }
+    }
+}
+
+/// Steps with wild numbers and slices of any length.
+pub fn wild_steps(dice: &mut Dice, tally: &mut Tally, times: u64) -> Result<(), String> {
+    let mut site = small_site(dice);
+    for _ in 0..times {
+        let cell = dice.place(site.card.cells as usize);
+        wild::fair_row(dice, &mut site.rows[ROW * cell..ROW * (cell + 1)], site.card.delays);
+        let mut given = given_by(&site);
+        given.reading = reading_numbers(&next_reading(&site, dice)).to_vec();
+        given.amounts.fill_with(|| wild::any_signed(dice));
+        for _ in 0..dice.pick(&[0, 1, 1, 1, 2, 3]) {
+            wilder(dice, &mut given);
+        }
+        let asked = given.clone();
+        let mut slices = Slices::lend(&given);
+        both(&mut given, &mut slices, tally).map_err(|what| format!("step\n{what}\n{asked:?}"))?;
+    }
+    Ok(())
+}
+
+/// One wild thing done to what a step is given.
+fn wilder(dice: &mut Dice, given: &mut Given) {
+    if wrong_count(given).is_some() {
+        return;
+    }
+    let cell = given.reading[0] as usize;
+    let (plot, start) = (SOIL.saturating_mul(cell), ROW.saturating_mul(cell));
+    let delays = given.card[1];
+    match dice.below(16) {
+        0 | 1 => wild::card(dice, &mut given.card),
+        2..=4 if plot + SOIL <= given.soil.len() => {
+            wild::soil(dice, &mut given.soil[plot..plot + SOIL])
+        }
+        5..=8 if start + ROW <= given.rows.len() => {
+            wild::row(dice, &mut given.rows[start..start + ROW], delays)
+        }
+        9 => wrong_length(dice, given),
+        // Numbers of other cells must not matter.
+        10 if !given.rows.is_empty() => {
+            let place = dice.place(given.rows.len());
+            given.rows[place] = wild::any(dice);
+        }
+        11 if !given.soil.is_empty() => {
+            let place = dice.place(given.soil.len());
+            given.soil[place] = wild::any_signed(dice);
+        }
+        _ => {
+            let cn = given.soil.get(plot.saturating_add(4)).copied().unwrap_or(0);
+            wild::reading(dice, &mut given.reading, cn);
+        }
+    }
+}
+
+/// Give one slice another length.
+fn wrong_length(dice: &mut Dice, given: &mut Given) {
+    let other = |dice: &mut Dice, right, stride| wild::other_length(dice, right, stride);
+    match dice.below(7) {
+        0 | 1 => given.soil.resize(other(dice, given.soil.len(), SOIL), 1),
+        2 | 3 => given.rows.resize(other(dice, given.rows.len(), ROW), 0),
+        4 => given.card.resize(other(dice, CARD, 1), 0),
+        5 => given.reading.resize(other(dice, READING, 1), 0),
+        _ => given.amounts.resize(other(dice, AMOUNTS, 1), 5),
+    }
+}
+
+/// Clearings of sites in order and not.
+pub fn clearings(dice: &mut Dice, tally: &mut Tally, times: u64) -> Result<(), String> {
+    for _ in 0..times {
+        let site = small_site(dice);
+        let mut card = card_numbers(&site.card).to_vec();
+        let mut rows: Vec<u32> = site.rows.iter().map(|_| wild::any(dice)).collect();
+        if dice.once_in(2) {
+            wild::card(dice, &mut card);
+        }
+        match dice.below(8) {
+            0 => card.resize(wild::other_length(dice, CARD, 1), 0),
+            1 | 2 => rows.resize(wild::other_length(dice, rows.len(), ROW), 7),
+            _ => {}
+        }
+        clearing(&card, rows, tally).map_err(|what| format!("clear\n{what}\n{card:?}"))?;
+    }
+    Ok(())
+}
+
+/// One clearing by both.
+fn clearing(card: &[u32], mut rows: Vec<u32>, tally: &mut Tally) -> Result<(), String> {
+    let (lent_card, mut lent_rows) = (Lent::new(card, 0xa5a5_a5a5), Lent::new(&rows, 0x5a5a_5a5a));
+    let number = match card.len() {
+        CARD => second::step::clear(&card_of(card), &mut rows),
+        _ => NOT_THE_COUNT,
+    };
+    let answered = waterbook::clear(lent_card.held(), lent_rows.slice());
+    tally.number("clear", number);
+    equal("number", answered, number)?;
+    same("card", &lent_card, card)?;
+    same("rows", &lent_rows, &rows)
+}

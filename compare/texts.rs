@@ -1,0 +1,307 @@
+//! The four text calls: well-formed and damaged texts, buffers of any size.
+
+use crate::lent::{equal, same, Lent};
+use crate::numbers::{card_numbers, card_of, reading_numbers, reading_of};
+use crate::steps::small_site;
+use crate::tally::Tally;
+use crate::waterbook::{self, CARD, GOT, NOT_THE_COUNT, READING, SOIL};
+use crate::wild;
+use second::made::damage::harm;
+use second::made::dice::Dice;
+use second::made::readings::{card_bytes, next_reading, reading_bytes};
+use second::made::site::Site;
+use second::text;
+
+/// What texts must be met for.
+pub const TEXTS: &[&str] = &[
+    "card read",
+    "card malformed at line 1",
+    "card malformed at line 2",
+    "card malformed at a later line",
+    "card read, soil slice longer",
+    "card refused, soil slice shorter",
+    "card written",
+    "card written, buffer exactly as long",
+    "card that no text gives",
+    "card written with a soil slice of another length",
+    "soil number that does not fit",
+    "buffer too short for a card",
+    "reading read",
+    "reading read, bytes after it",
+    "reading malformed",
+    "reading without LF",
+    "reading written",
+    "reading written, buffer exactly as long",
+    "buffer too short for a reading",
+    "got slice of another length",
+    "card slice of another length",
+    "reading slice of another length",
+];
+
+/// Bytes in which nothing is written yet.
+fn blank(dice: &mut Dice, length: usize) -> Vec<u8> {
+    vec![dice.pick(b"\0.\xff\n="); length]
+}
+
+/// Two numbers, or another count of them, for a call to fill.
+fn got_slice(dice: &mut Dice) -> Vec<usize> {
+    let length = if dice.once_in(50) { wild::other_length(dice, GOT, 1) } else { GOT };
+    vec![0xdead_beef; length]
+}
+
+/// Numbers for a reader to fill, the right count of them mostly.
+fn numbers_slice(dice: &mut Dice, right: usize) -> Vec<u32> {
+    let length = if dice.once_in(50) { wild::other_length(dice, right, 1) } else { right };
+    (0..length).map(|_| wild::any(dice)).collect()
+}
+
+/// Meet a call that was refused for a slice's count of numbers.
+fn meet_count(got: &[usize], name: &'static str, tally: &mut Tally) {
+    let short = got.len() != GOT;
+    tally.meet("texts", if short { "got slice of another length" } else { name });
+}
+
+/// The text of a card, well-formed or damaged, with or without more after it.
+fn card_text(dice: &mut Dice) -> Vec<u8> {
+    let mut site = small_site(dice);
+    if dice.once_in(3) {
+        any_soil(dice, &mut site);
+    }
+    let mut bytes = card_bytes(&site);
+    match dice.below(4) {
+        0 => bytes.extend(reading_bytes(&next_reading(&site, dice))),
+        1 => bytes.extend(dice.roll().to_le_bytes()),
+        _ => {}
+    }
+    for _ in 0..dice.pick(&[0, 1, 1, 1, 2, 3]) {
+        harm(dice, &mut bytes);
+    }
+    bytes
+}
+
+/// Any soil numbers that fit their text.
+fn any_soil(dice: &mut Dice, site: &mut Site) {
+    for (place, number) in site.soil.iter_mut().enumerate() {
+        *number = if place % SOIL == 0 { wild::any_signed(dice) } else { wild::any(dice).into() };
+    }
+}
+
+/// Read a card on both sides.
+pub fn read_card(dice: &mut Dice, tally: &mut Tally) -> Result<(), String> {
+    let bytes = card_text(dice);
+    let length = if dice.once_in(2) { 1280 } else { dice.place(25) };
+    let mut soil = vec![wild::any_signed(dice); length];
+    let (mut card, mut got) = (numbers_slice(dice, CARD), got_slice(dice));
+    let (text, mut lent_soil) = (Lent::new(&bytes, b' '), Lent::new(&soil, 1));
+    let (mut lent_card, mut lent_got) = (Lent::new(&card, 7), Lent::new(&got, 9));
+    let answered =
+        waterbook::read_card(text.held(), lent_card.slice(), lent_soil.slice(), lent_got.slice());
+    let mut number = NOT_THE_COUNT;
+    if card.len() == CARD && got.len() == GOT {
+        let (taken, read) = text::read_card(&bytes, &mut soil);
+        number = taken.number;
+        card = card_numbers(&read).to_vec();
+        got = vec![taken.bytes, taken.line as usize];
+        tally.meet("texts", card_read(number, taken.line, soil.len() > SOIL * read.cells as usize));
+    } else {
+        meet_count(&got, "card slice of another length", tally);
+    }
+    tally.number("read_card", number);
+    tally.texts += 1;
+    equal("number", answered, number)
+        .and_then(|()| same("got", &lent_got, &got))
+        .and_then(|()| same("card", &lent_card, &card))
+        .and_then(|()| same("soil", &lent_soil, &soil))
+        .and_then(|()| same("text", &text, &bytes))
+        .map_err(|what| format!("read_card\n{what}\nsoil of {length}, text\n{}", shown(&bytes)))
+}
+
+/// What reading a card came to.
+fn card_read(number: u32, line: u32, longer: bool) -> &'static str {
+    match (number, line) {
+        (0, _) if longer => "card read, soil slice longer",
+        (0, _) => "card read",
+        (2, _) => "card refused, soil slice shorter",
+        (_, 1) => "card malformed at line 1",
+        (_, 2) => "card malformed at line 2",
+        _ => "card malformed at a later line",
+    }
+}
+
+/// A text as a line of Rust would show it.
+pub fn shown(bytes: &[u8]) -> String {
+    bytes.escape_ascii().to_string().replace("\\n", "\\n\n")
+}
+
+/// The text of a reading, well-formed or damaged, with or without more after it.
+fn reading_text(dice: &mut Dice) -> Vec<u8> {
+    let numbers: Vec<u32> = (0..READING).map(|_| wild::any(dice)).collect();
+    let mut bytes = reading_bytes(&reading_of(&numbers));
+    match dice.below(4) {
+        0 => bytes.extend(b"cell=0 life=0\n"),
+        1 => bytes.extend(dice.roll().to_le_bytes()),
+        _ => {}
+    }
+    for _ in 0..dice.pick(&[0, 0, 1, 1, 1, 2, 3]) {
+        harm(dice, &mut bytes);
+    }
+    bytes
+}
+
+/// Read a reading on both sides.
+pub fn read_reading(dice: &mut Dice, tally: &mut Tally) -> Result<(), String> {
+    let bytes = reading_text(dice);
+    let (mut reading, mut got) = (numbers_slice(dice, READING), got_slice(dice));
+    let text = Lent::new(&bytes, b' ');
+    let (mut lent_reading, mut lent_got) = (Lent::new(&reading, 7), Lent::new(&got, 9));
+    let answered = waterbook::read_reading(text.held(), lent_reading.slice(), lent_got.slice());
+    let mut number = NOT_THE_COUNT;
+    if reading.len() == READING && got.len() == GOT {
+        let (taken, read) = text::read_reading(&bytes);
+        number = taken.number;
+        reading = reading_numbers(&read).to_vec();
+        got = vec![taken.bytes, taken.line as usize];
+        tally.meet("texts", reading_read(number, &bytes, taken.bytes));
+    } else {
+        meet_count(&got, "reading slice of another length", tally);
+    }
+    tally.number("read_reading", number);
+    tally.texts += 1;
+    equal("number", answered, number)
+        .and_then(|()| same("got", &lent_got, &got))
+        .and_then(|()| same("reading", &lent_reading, &reading))
+        .and_then(|()| same("text", &text, &bytes))
+        .map_err(|what| format!("read_reading\n{what}\ntext\n{}", shown(&bytes)))
+}
+
+/// What reading a reading came to.
+fn reading_read(number: u32, bytes: &[u8], taken: usize) -> &'static str {
+    match number {
+        0 if taken < bytes.len() => "reading read, bytes after it",
+        0 => "reading read",
+        _ if bytes.contains(&b'\n') => "reading malformed",
+        _ => "reading without LF",
+    }
+}
+
+/// A buffer's length, given how long the text is that should stand in it.
+fn buffer_length(dice: &mut Dice, text: usize) -> usize {
+    let some = dice.place(2 * text + 2);
+    dice.pick(&[text, text, text.saturating_sub(1), text + 1, text + 40, 0, some])
+}
+
+/// Write a card on both sides.
+pub fn write_card(dice: &mut Dice, tally: &mut Tally) -> Result<(), String> {
+    let mut site = small_site(dice);
+    if dice.once_in(2) {
+        any_soil(dice, &mut site);
+    }
+    let (mut card, mut soil) = (card_numbers(&site.card).to_vec(), site.soil.clone());
+    let length = buffer_length(dice, card_bytes(&site).len());
+    for _ in 0..dice.pick(&[0, 1, 1, 2, 3]) {
+        wilder(dice, &mut card, &mut soil);
+    }
+    let (mut buffer, got) = (blank(dice, length), got_slice(dice));
+    written_card(&card, &soil, &mut buffer, got, tally).map_err(|what| {
+        format!("write_card\n{what}\nbuffer of {length}\ncard {card:?}\nsoil {soil:?}")
+    })
+}
+
+/// One wild thing done to a card or its soil numbers.
+fn wilder(dice: &mut Dice, card: &mut Vec<u32>, soil: &mut Vec<i64>) {
+    match dice.below(12) {
+        0..=4 if card.len() == CARD => wild::card(dice, card),
+        5 | 6 => soil.resize(wild::other_length(dice, soil.len(), SOIL), 1),
+        7 => card.resize(wild::other_length(dice, CARD, 1), 0),
+        _ if soil.is_empty() => {}
+        _ => {
+            let place = dice.place(soil.len());
+            soil[place] = wild::any_signed(dice);
+        }
+    }
+}
+
+/// One card written by both.
+fn written_card(
+    card: &[u32],
+    soil: &[i64],
+    buffer: &mut [u8],
+    mut got: Vec<usize>,
+    tally: &mut Tally,
+) -> Result<(), String> {
+    let (lent_card, lent_soil) = (Lent::new(card, 7), Lent::new(soil, 1));
+    let (mut lent_buffer, mut lent_got) = (Lent::new(buffer, b' '), Lent::new(&got, 9));
+    let answered = waterbook::write_card(
+        lent_card.held(),
+        lent_soil.held(),
+        lent_buffer.slice(),
+        lent_got.slice(),
+    );
+    let mut number = NOT_THE_COUNT;
+    if card.len() == CARD && got.len() == GOT {
+        let (wanted, length) = text::write_card(&card_of(card), soil, buffer);
+        (number, got) = (wanted, vec![length, 0]);
+        tally.meet("texts", card_written(number, card, soil, length == buffer.len()));
+    } else {
+        meet_count(&got, "card slice of another length", tally);
+    }
+    tally.number("write_card", number);
+    tally.texts += 1;
+    equal("number", answered, number)?;
+    same("got", &lent_got, &got)?;
+    same("buffer", &lent_buffer, buffer)?;
+    same("card", &lent_card, card)?;
+    same("soil", &lent_soil, soil)
+}
+
+/// What writing a card came to.
+fn card_written(number: u32, card: &[u32], soil: &[i64], exact: bool) -> &'static str {
+    let sized = (1..=256).contains(&card[0]) && card[1] <= 30;
+    let no_text = !sized || card[2 + card[1] as usize..].iter().any(|depth| *depth != 0);
+    let fits = |place: usize| place % SOIL == 0 || u32::try_from(soil[place]).is_ok();
+    match number {
+        0 if exact => "card written, buffer exactly as long",
+        0 => "card written",
+        2 => "card written with a soil slice of another length",
+        _ if no_text => "card that no text gives",
+        _ if (0..soil.len()).all(fits) => "buffer too short for a card",
+        _ => "soil number that does not fit",
+    }
+}
+
+/// Write a reading on both sides.
+pub fn write_reading(dice: &mut Dice, tally: &mut Tally) -> Result<(), String> {
+    let reading = numbers_slice(dice, READING);
+    let text =
+        if reading.len() == READING { reading_bytes(&reading_of(&reading)).len() } else { 90 };
+    let length = buffer_length(dice, text);
+    let (mut buffer, mut got) = (blank(dice, length), got_slice(dice));
+    let lent_reading = Lent::new(&reading, 7);
+    let (mut lent_buffer, mut lent_got) = (Lent::new(&buffer, b' '), Lent::new(&got, 9));
+    let answered =
+        waterbook::write_reading(lent_reading.held(), lent_buffer.slice(), lent_got.slice());
+    let mut number = NOT_THE_COUNT;
+    if reading.len() == READING && got.len() == GOT {
+        let (wanted, written) = text::write_reading(&reading_of(&reading), &mut buffer);
+        (number, got) = (wanted, vec![written, 0]);
+        tally.meet("texts", reading_written(number, written == length));
+    } else {
+        meet_count(&got, "reading slice of another length", tally);
+    }
+    tally.number("write_reading", number);
+    tally.texts += 1;
+    equal("number", answered, number)
+        .and_then(|()| same("got", &lent_got, &got))
+        .and_then(|()| same("buffer", &lent_buffer, &buffer))
+        .and_then(|()| same("reading", &lent_reading, &reading))
+        .map_err(|what| format!("write_reading\n{what}\nbuffer of {length}\n{reading:?}"))
+}
+
+/// What writing a reading came to.
+fn reading_written(number: u32, exact: bool) -> &'static str {
+    match number {
+        0 if exact => "reading written, buffer exactly as long",
+        0 => "reading written",
+        _ => "buffer too short for a reading",
+    }
+}

@@ -1,0 +1,355 @@
+/* A host in C: keeps the book of the rules page's example through the proved library.
+ * host-c               the example
+ * host-c SEED CALLS    so many random calls, wrong counts of numbers among them; for valgrind */
+#include <inttypes.h>
+#include <stdio.h>
+#include <stdlib.h>
+#include <string.h>
+
+#include "waterbook.h"
+
+static const char journal[] =
+    "cells=1 delays=2 depth=1000000 depth=2000000\n"
+    "top=10000000 etdepth=1500000 vadpor=200 leak=100000 cn=80\n"
+    "cell=0 life=0 count=0 rain=50800 irrig=0 septic=1000 etmin=2000 pet=5000 amc=2 head=410c0000\n"
+    "cell=0 life=0 count=1 rain=0 irrig=0 septic=0 etmin=2000 pet=5000 amc=2 head=410c0000\n"
+    "cell=0 life=0 count=1 rain=0 irrig=0 septic=0 etmin=2000 pet=5000 amc=2 head=410c0000\n";
+
+static const char book[] =
+    "cell=0 code=0 inflow=51800 runoff=14287 etvad=2000 etstor=0 etsat=500 drain=0 release=0 stored=34513 recharge=500 left=34513\n"
+    "cell=0 code=0 inflow=0 runoff=0 etvad=0 etstor=0 etsat=833 drain=0 release=34513 stored=0 recharge=33680 left=0\n"
+    "cell=0 code=6 inflow=0 runoff=0 etvad=0 etstor=0 etsat=0 drain=0 release=0 stored=0 recharge=0 left=0\n"
+    "steps=2 inflow=51800 runoff=14287 etvad=2000 etstor=0 etsat=1333 drain=0 release=34513 stored=34513 recharge=34180\n";
+
+static const char *const names[WATERBOOK_AMOUNTS] = {
+    "inflow", "runoff", "etvad", "etstor", "etsat", "drain", "release", "stored", "recharge", "left"};
+
+/* ---- the example ---- */
+
+/* Text that grows at its end. */
+struct page {
+    char text[4096];
+    size_t length;
+};
+
+/* Numbers under the names of the amounts, a space before each, then LF. */
+static void put_named(struct page *page, const int64_t *numbers, size_t count) {
+    for (size_t i = 0; i < count; i++)
+        page->length += (size_t)snprintf(page->text + page->length, sizeof page->text - page->length,
+                                         " %s=%" PRId64, names[i], numbers[i]);
+    page->length += (size_t)snprintf(page->text + page->length, sizeof page->text - page->length, "\n");
+}
+
+/* A word with its number, before the named ones. */
+static void put_word(struct page *page, const char *word, int64_t number) {
+    page->length += (size_t)snprintf(page->text + page->length, sizeof page->text - page->length,
+                                     "%s=%" PRId64, word, number);
+}
+
+/* One reading: its answer on the page and on the sheet; the bytes taken, or 0 where it is malformed. */
+static size_t keep_reading(const uint32_t *card, const int64_t *soil, size_t soil_len, uint32_t *rows,
+                           size_t rows_len, const uint8_t *text, size_t text_len, int64_t *sheet,
+                           struct page *page) {
+    uint32_t reading[WATERBOOK_READING];
+    int64_t amounts[WATERBOOK_AMOUNTS];
+    size_t got[WATERBOOK_GOT];
+    if (waterbook_read_reading(text, text_len, reading, WATERBOOK_READING, got, WATERBOOK_GOT) != 0)
+        return 0;
+    uint32_t number = waterbook_step(card, WATERBOOK_CARD, soil, soil_len, rows, rows_len, reading,
+                                     WATERBOOK_READING, amounts, WATERBOOK_AMOUNTS);
+    put_word(page, "cell", reading[0]);
+    put_word(page, " code", number);
+    put_named(page, amounts, WATERBOOK_AMOUNTS);
+    /* A refused answer gets 11 and leaves the sheet as it was. */
+    (void)waterbook_add(sheet, WATERBOOK_SHEET, number, amounts, WATERBOOK_AMOUNTS);
+    return got[0];
+}
+
+/* The whole example by single calls: 0, or the number that stopped it. */
+static uint32_t keep_book(const uint8_t *text, size_t text_len, struct page *page) {
+    static uint32_t rows[WATERBOOK_ROW * WATERBOOK_CELLS];
+    static int64_t soil[WATERBOOK_SOIL * WATERBOOK_CELLS];
+    uint32_t card[WATERBOOK_CARD];
+    int64_t sheet[WATERBOOK_SHEET] = {0};
+    size_t got[WATERBOOK_GOT];
+    uint32_t number = waterbook_read_card(text, text_len, card, WATERBOOK_CARD, soil,
+                                          WATERBOOK_SOIL * WATERBOOK_CELLS, got, WATERBOOK_GOT);
+    if (number != 0)
+        return number;
+    size_t at = got[0], soil_len = WATERBOOK_SOIL * card[0], rows_len = WATERBOOK_ROW * card[0];
+    number = waterbook_clear(card, WATERBOOK_CARD, rows, rows_len);
+    while (number == 0 && at < text_len) {
+        size_t taken = keep_reading(card, soil, soil_len, rows, rows_len, text + at, text_len - at, sheet, page);
+        number = taken == 0 ? 12 : 0;
+        at += taken;
+    }
+    if (number == 0) {
+        put_word(page, "steps", sheet[0]);
+        put_named(page, sheet + 1, WATERBOOK_SHEET - 1);
+    }
+    return number;
+}
+
+/* The book in one call must be the same text. */
+static int same_in_one_call(void) {
+    size_t room = WATERBOOK_BOOK_ROOM(sizeof journal - 1);
+    uint8_t *buf = malloc(room);
+    if (buf == NULL)
+        return 0;
+    size_t length = waterbook_book((const uint8_t *)journal, sizeof journal - 1, buf, room);
+    int same = length == sizeof book - 1 && memcmp(buf, book, length) == 0;
+    free(buf);
+    return same;
+}
+
+static int example(void) {
+    static struct page page;
+    uint32_t number = keep_book((const uint8_t *)journal, sizeof journal - 1, &page);
+    if (number != 0) {
+        fprintf(stderr, "host.c: the example was refused with %" PRIu32 "\n", number);
+        return 1;
+    }
+    fputs(page.text, stdout);
+    if (strcmp(page.text, book) != 0 || !same_in_one_call()) {
+        fprintf(stderr, "host.c: the book should have been\n%s", book);
+        return 1;
+    }
+    puts("host.c: the example's book, by single calls and in one");
+    return 0;
+}
+
+/* ---- random calls ---- */
+
+static uint64_t state;  /* of the dice: splitmix64 */
+static uint64_t digest; /* of all answers: the same for the same seed */
+
+static uint64_t roll(void) {
+    uint64_t z = (state += 0x9e3779b97f4a7c15u);
+    z = (z ^ (z >> 30)) * 0xbf58476d1ce4e5b9u;
+    z = (z ^ (z >> 27)) * 0x94d049bb133111ebu;
+    return z ^ (z >> 31);
+}
+
+static uint64_t below(uint64_t limit) { return roll() % limit; }
+
+/* A number at most so large, mostly; now and then any. */
+static uint32_t number_to(uint32_t most) {
+    return below(400) == 0 ? (uint32_t)roll() : (uint32_t)below((uint64_t)most + 1);
+}
+
+/* Exactly so many bytes, so that valgrind sees the first one beyond; never null. */
+static void *lend(size_t bytes) {
+    void *slice = malloc(bytes);
+    if (slice == NULL)
+        slice = malloc(1);
+    if (slice == NULL)
+        exit(2);
+    return slice;
+}
+
+/* The right count of numbers, now and then another. */
+static size_t count_of(size_t right) {
+    if (below(40) != 0)
+        return right;
+    return below(2) == 0 ? right + 1 + below(3) : below(right + 1);
+}
+
+/* Take an answer and what it wrote into the digest. */
+static void note(uint64_t answer, const void *bytes, size_t count) {
+    const uint8_t *byte = bytes;
+    digest = (digest ^ answer) * 0x100000001b3u;
+    for (size_t i = 0; i < count; i++)
+        digest = (digest ^ byte[i]) * 0x100000001b3u;
+}
+
+/* Any card: in range mostly. */
+static uint32_t *any_card(size_t count) {
+    uint32_t *card = lend(count * sizeof *card);
+    uint32_t delays = (uint32_t)below(31), depth = 0;
+    for (size_t i = 0; i < count; i++) {
+        if (i >= 2 && i < 2 + (size_t)delays)
+            depth += 1 + (uint32_t)below(300000);
+        card[i] = i == 0 ? 1 + (uint32_t)below(6) : i == 1 ? delays : i < 2 + (size_t)delays ? depth : 0;
+    }
+    if (count > 0 && below(12) == 0)
+        card[below(count)] = (uint32_t)(roll() >> below(64));
+    return card;
+}
+
+/* The cells of a card that is in order; 1 where it is not. */
+static size_t cells_of(const uint32_t *card, size_t count) {
+    return count > 0 && card[0] >= 1 && card[0] <= WATERBOOK_CELLS ? card[0] : 1;
+}
+
+static int64_t *any_soil(size_t count) {
+    static const int64_t most[WATERBOOK_SOIL] = {2000000, 3000000, 999, 1000000, 99};
+    static const int64_t least[WATERBOOK_SOIL] = {-1000000, 1, 1, 0, 1};
+    int64_t *soil = lend(count * sizeof *soil);
+    for (size_t i = 0; i < count; i++)
+        soil[i] = least[i % 5] + (int64_t)below((uint64_t)most[i % 5]);
+    if (count > 0 && below(12) == 0)
+        soil[below(count)] = (int64_t)roll() >> below(64);
+    return soil;
+}
+
+static uint32_t *any_rows(size_t count) {
+    uint32_t *rows = lend(count * sizeof *rows);
+    for (size_t i = 0; i < count; i++)
+        rows[i] = i % 32 < 2 ? (uint32_t)below(3) : 0;
+    if (count > 2 && below(2) == 0)
+        rows[2 + below(count - 2)] = (uint32_t)below(2000001);
+    if (count > 0 && below(12) == 0)
+        rows[below(count)] = (uint32_t)(roll() >> below(64));
+    return rows;
+}
+
+/* The head of a water table some metres around 0, dry, inactive, or any bits. */
+static uint32_t any_head(void) {
+    float metres = (float)((double)below(6000001) / 1000000.0 - 3.0);
+    uint32_t bits;
+    memcpy(&bits, &metres, sizeof bits);
+    switch (below(12)) {
+    case 0: return 0xf149f2ca;
+    case 1: return 0x7149f2ca;
+    case 2: return (uint32_t)roll();
+    default: return bits;
+    }
+}
+
+static uint32_t *any_reading(size_t count) {
+    static const uint32_t most[WATERBOOK_READING] = {5, 2, 2, 200000, 50000, 20000, 3000, 9000, 2, 0};
+    uint32_t *reading = lend(count * sizeof *reading);
+    for (size_t i = 0; i < count; i++)
+        reading[i] = i == 8 ? number_to(2) + 1 : i == 9 ? any_head() : number_to(most[i % 10]);
+    return reading;
+}
+
+static void call_step(void) {
+    size_t card_len = count_of(WATERBOOK_CARD), reading_len = count_of(WATERBOOK_READING);
+    size_t amounts_len = count_of(WATERBOOK_AMOUNTS);
+    uint32_t *card = any_card(card_len), *reading = any_reading(reading_len);
+    size_t soil_len = count_of(WATERBOOK_SOIL * cells_of(card, card_len));
+    size_t rows_len = count_of(WATERBOOK_ROW * cells_of(card, card_len));
+    int64_t *soil = any_soil(soil_len), *amounts = lend(amounts_len * sizeof *amounts);
+    uint32_t *rows = any_rows(rows_len);
+    /* The amounts come unset: the library must not look at them. */
+    uint32_t number = waterbook_step(card, card_len, soil, soil_len, rows, rows_len, reading, reading_len,
+                                     amounts, amounts_len);
+    note(number, rows, rows_len * sizeof *rows);
+    if (number != WATERBOOK_NOT_THE_COUNT)
+        note(number, amounts, amounts_len * sizeof *amounts);
+    free(card), free(reading), free(soil), free(rows), free(amounts);
+}
+
+static void call_clear(void) {
+    size_t card_len = count_of(WATERBOOK_CARD);
+    uint32_t *card = any_card(card_len);
+    size_t rows_len = count_of(WATERBOOK_ROW * cells_of(card, card_len));
+    uint32_t *rows = any_rows(rows_len);
+    uint32_t number = waterbook_clear(card, card_len, rows, rows_len);
+    note(number, rows, rows_len * sizeof *rows);
+    free(card), free(rows);
+}
+
+static void call_add(void) {
+    size_t sheet_len = count_of(WATERBOOK_SHEET), amounts_len = count_of(WATERBOOK_AMOUNTS);
+    int64_t *sheet = lend(sheet_len * sizeof *sheet), *amounts = lend(amounts_len * sizeof *amounts);
+    for (size_t i = 0; i < sheet_len; i++)
+        sheet[i] = (int64_t)below(1000);
+    for (size_t i = 0; i < amounts_len; i++)
+        amounts[i] = below(60) == 0 ? (int64_t)roll() >> below(64) : (int64_t)below(30000000001u);
+    uint32_t number = waterbook_add(sheet, sheet_len, below(20) == 0 ? (uint32_t)below(13) : 0, amounts, amounts_len);
+    note(number, sheet, sheet_len * sizeof *sheet);
+    free(sheet), free(amounts);
+}
+
+/* A part of the example's journal from a line's start, with a byte or two changed at times. */
+static uint8_t *any_text(size_t start, size_t *length) {
+    *length = sizeof journal - 1 - start;
+    if (below(4) == 0)
+        *length = below(*length + 1);
+    uint8_t *text = lend(*length);
+    memcpy(text, journal + start, *length);
+    for (uint64_t changes = below(3) * below(2); *length > 0 && changes > 0; changes--)
+        text[below(*length)] = below(3) == 0 ? (uint8_t)roll() : (uint8_t)"0123456789 =-\n"[below(14)];
+    return text;
+}
+
+/* The start of the first reading in the example's journal. */
+static size_t readings_start(void) { return (size_t)(strstr(journal, "cell=0") - journal); }
+
+static void call_read(int of_card) {
+    size_t text_len, numbers_len = count_of(of_card ? WATERBOOK_CARD : WATERBOOK_READING);
+    size_t soil_len = below(8), got_len = count_of(WATERBOOK_GOT);
+    uint8_t *text = any_text(of_card ? 0 : readings_start(), &text_len);
+    uint32_t *numbers = lend(numbers_len * sizeof *numbers), number;
+    int64_t *soil = any_soil(soil_len);
+    size_t *got = lend(got_len * sizeof *got);
+    if (of_card)
+        number = waterbook_read_card(text, text_len, numbers, numbers_len, soil, soil_len, got, got_len);
+    else
+        number = waterbook_read_reading(text, text_len, numbers, numbers_len, got, got_len);
+    note(number, soil, soil_len * sizeof *soil);
+    if (number != WATERBOOK_NOT_THE_COUNT) {
+        note(number, numbers, numbers_len * sizeof *numbers);
+        note(number, got, got_len * sizeof *got);
+    }
+    free(text), free(numbers), free(soil), free(got);
+}
+
+static void call_write(int of_card) {
+    size_t numbers_len = count_of(of_card ? WATERBOOK_CARD : WATERBOOK_READING), got_len = count_of(WATERBOOK_GOT);
+    uint32_t *numbers = of_card ? any_card(numbers_len) : any_reading(numbers_len), number;
+    size_t soil_len = count_of(WATERBOOK_SOIL * (of_card ? cells_of(numbers, numbers_len) : 1));
+    size_t buf_len = below(of_card ? 900 : 150);
+    int64_t *soil = any_soil(soil_len);
+    uint8_t *buf = lend(buf_len);
+    size_t *got = lend(got_len * sizeof *got);
+    if (of_card)
+        number = waterbook_write_card(numbers, numbers_len, soil, soil_len, buf, buf_len, got, got_len);
+    else
+        number = waterbook_write_reading(numbers, numbers_len, buf, buf_len, got, got_len);
+    if (number != WATERBOOK_NOT_THE_COUNT)
+        note(number, got, got_len * sizeof *got);
+    if (number == 0)
+        note(number, buf, got[0]);
+    free(numbers), free(soil), free(buf), free(got);
+}
+
+static void call_book(void) {
+    size_t text_len;
+    uint8_t *text = any_text(0, &text_len);
+    size_t room = WATERBOOK_BOOK_ROOM(text_len) - (below(6) == 0 ? 1 + below(300) : 0);
+    uint8_t *buf = lend(room);
+    size_t length = waterbook_book(text, text_len, buf, room);
+    note(length, buf, length);
+    free(text), free(buf);
+}
+
+static void call_any(void) {
+    switch (below(10)) {
+    case 0: call_clear(); break;
+    case 1: call_add(); break;
+    case 2: call_read(1); break;
+    case 3: call_read(0); break;
+    case 4: call_write(1); break;
+    case 5: call_write(0); break;
+    case 6: call_book(); break;
+    default: call_step(); break;
+    }
+}
+
+int main(int argc, char **argv) {
+    if (argc == 1)
+        return example();
+    if (argc != 3) {
+        fputs("usage: host-c [SEED CALLS]\n", stderr);
+        return 2;
+    }
+    state = strtoull(argv[1], NULL, 10);
+    uint64_t calls = strtoull(argv[2], NULL, 10);
+    for (uint64_t i = 0; i < calls; i++)
+        call_any();
+    printf("host.c: seed=%s calls=%" PRIu64 " digest=%016" PRIx64 "\n", argv[1], calls, digest);
+    return 0;
+}

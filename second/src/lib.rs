@@ -1,0 +1,14 @@
+//! A second water-budget program, written from the rules page alone.
+//! The modules follow the page: numbers, head, rules, step, sheet, text, journal.
+
+pub mod head;
+pub mod journal;
+pub mod made;
+pub mod numbers;
+pub mod rules;
+pub mod sheet;
+pub mod step;
+pub mod text;
+
+#[cfg(test)]
+mod tests;

@@ -1,0 +1,128 @@
+//! "Numbers and their ranges": the records and what each may hold.
+
+/// Places for delay depths on a card.
+pub const ROOM: usize = 30;
+/// Soil numbers per cell.
+pub const SOIL: usize = 5;
+/// Stored numbers per cell: life, next count, slots 1..30.
+pub const ROW: usize = 32;
+/// The largest single water field of a reading, in micrometres.
+pub const MOST: u32 = 1_000_000;
+
+/// The card of a site, with its delay depths.
+#[derive(Clone, Copy, Debug, PartialEq, Eq)]
+pub struct Card {
+    pub cells: u32,
+    pub delays: u32,
+    pub depths: [u32; ROOM],
+}
+
+/// One reading; the head is kept as its 32 bits.
+#[derive(Clone, Copy, Debug, Default, PartialEq, Eq)]
+pub struct Reading {
+    pub cell: u32,
+    pub life: u32,
+    pub count: u32,
+    pub rain: u32,
+    pub irrig: u32,
+    pub septic: u32,
+    pub etmin: u32,
+    pub pet: u32,
+    pub amc: u32,
+    pub head: u32,
+}
+
+/// The ten amounts of an answer, in micrometres over the cell.
+#[derive(Clone, Copy, Debug, Default, PartialEq, Eq)]
+pub struct Amounts {
+    pub inflow: i64,
+    pub runoff: i64,
+    pub etvad: i64,
+    pub etstor: i64,
+    pub etsat: i64,
+    pub drain: i64,
+    pub release: i64,
+    pub stored: i64,
+    pub recharge: i64,
+    pub left: i64,
+}
+
+impl Card {
+    /// A card of zeros.
+    pub const ZEROS: Card = Card { cells: 0, delays: 0, depths: [0; ROOM] };
+
+    /// The delay depths in use, M of them.
+    pub fn used(&self) -> &[u32] {
+        &self.depths[..self.delays as usize]
+    }
+
+    /// The places for depths not in use.
+    pub fn unused(&self) -> &[u32] {
+        &self.depths[self.delays as usize..]
+    }
+
+    /// Cells and delays within the page's ranges.
+    pub fn sized(&self) -> bool {
+        (1..=256).contains(&self.cells) && self.delays <= 30
+    }
+
+    /// All the card's ranges, rising depths, and zeros in unused places.
+    pub fn in_range(&self) -> bool {
+        self.sized()
+            && self.used().iter().all(|d| (1..=1_000_000_000).contains(d))
+            && self.used().windows(2).all(|pair| pair[0] < pair[1])
+            && self.unused().iter().all(|d| *d == 0)
+    }
+}
+
+impl Amounts {
+    /// The nine amounts that a sheet sums, in the page's order, recharge last.
+    pub fn nine(&self) -> [i64; 9] {
+        [
+            self.inflow,
+            self.runoff,
+            self.etvad,
+            self.etstor,
+            self.etsat,
+            self.drain,
+            self.release,
+            self.stored,
+            self.recharge,
+        ]
+    }
+}
+
+/// The five soil numbers of one cell, each in its range.
+pub fn soil_in_range(soil: &[i64]) -> bool {
+    (-10_000_000_000..=10_000_000_000).contains(&soil[0])
+        && (1..=100_000_000).contains(&soil[1])
+        && (1..=1000).contains(&soil[2])
+        && (0..=1_000_000).contains(&soil[3])
+        && (1..=100).contains(&soil[4])
+}
+
+/// The most water that slot k may hold under M delays; none above M.
+pub fn slot_limit(k: u32, delays: u32) -> u32 {
+    if k > delays {
+        0
+    } else {
+        2_000_000 * (delays - k + 1)
+    }
+}
+
+/// The 32 stored numbers of one cell, each in its range.
+pub fn row_in_range(row: &[u32], delays: u32) -> bool {
+    row[0] <= 65_535
+        && row[1] <= 1_000_000
+        && (1..=30).all(|k| row[1 + k as usize] <= slot_limit(k, delays))
+}
+
+/// The reading's whole-number fields but the cell number, and etmin against pet.
+pub fn fields_in_range(r: &Reading) -> bool {
+    let waters = [r.rain, r.irrig, r.septic, r.etmin, r.pet];
+    r.life <= 65_535
+        && r.count <= 999_999
+        && waters.iter().all(|w| *w <= MOST)
+        && r.etmin <= r.pet
+        && (1..=3).contains(&r.amc)
+}

@@ -1,0 +1,78 @@
+//! Made journals: the same each time, every reachable number met, and water kept.
+
+use crate::journal::waterbook;
+use crate::made::dice::Dice;
+use crate::made::readings::made_reading;
+use crate::made::site::Site;
+use crate::made::{journal, journal_of_kind};
+use crate::numbers::{row_in_range, Amounts, Reading, ROW};
+use crate::step::step;
+use std::collections::BTreeMap;
+
+/// How often each number was met in the books of so many journals.
+fn tally(seed: u64, count: u64) -> BTreeMap<String, u64> {
+    let mut tally = BTreeMap::new();
+    for place in 0..count {
+        let book = String::from_utf8(waterbook(&journal(seed, place))).unwrap();
+        let codes = book.split([' ', '\n']).filter(|word| word.starts_with("code="));
+        for code in codes {
+            *tally.entry(code.to_string()).or_insert(0) += 1;
+        }
+    }
+    tally
+}
+
+#[test]
+fn every_reachable_number_is_met() {
+    let tally = tally(2024, 600);
+    for number in [0, 1, 3, 4, 6, 7, 8, 9, 10, 12] {
+        assert!(tally.contains_key(&format!("code={number}")), "{number} in {tally:?}");
+    }
+    for number in [2, 5, 11] {
+        assert!(!tally.contains_key(&format!("code={number}")), "{number} in {tally:?}");
+    }
+    println!("{tally:?}");
+}
+
+#[test]
+fn the_same_each_time() {
+    for place in [0, 1, 77, 123_456] {
+        assert_eq!(journal_of_kind(9, place), journal_of_kind(9, place));
+    }
+    assert_ne!(journal(9, 0), journal(10, 0));
+    assert_ne!(journal(9, 0), journal(9, 1));
+}
+
+/// What went in must come out: today's water, the queue and the recharge.
+fn water_is_kept(r: &Reading, a: &Amounts, left_before: i64) {
+    let direct = i64::from(r.rain) + i64::from(r.irrig) - a.runoff - a.etvad - a.stored;
+    assert!(direct >= 0 && a.runoff >= 0 && a.etvad >= 0 && a.etsat >= 0 && a.drain >= 0);
+    assert!(a.etvad + a.etstor + a.etsat <= i64::from(r.pet));
+    assert_eq!(a.left, left_before - a.release - a.etstor + a.stored);
+    let gains = a.release + direct + i64::from(r.septic);
+    assert_eq!(a.recharge, gains - a.etsat - a.drain);
+}
+
+#[test]
+fn water_is_kept_over_made_runs() {
+    let mut accepted = 0;
+    for seed in 0..60 {
+        let mut dice = Dice::new(seed);
+        let mut site = Site::made(&mut dice);
+        let mut rows = site.rows.clone();
+        for _ in 0..300 {
+            let r = made_reading(&mut site, &mut dice);
+            let start = ROW * r.cell as usize;
+            let before = rows
+                .get(start + 2..start + ROW)
+                .map_or(0, |s| s.iter().map(|w| i64::from(*w)).sum());
+            let (number, amounts) = step(&site.card, &site.soil, &mut rows, &r);
+            if number == 0 {
+                water_is_kept(&r, &amounts, before);
+                assert!(row_in_range(&rows[start..start + ROW], site.card.delays));
+                accepted += 1;
+            }
+        }
+    }
+    assert!(accepted > 10_000);
+}

@@ -1,0 +1,34 @@
+//! The page's own cases, each refusal number, texts, books and made journals.
+
+mod book;
+mod edges;
+mod heads;
+mod made;
+mod refusals;
+mod sheets;
+mod texts;
+
+use crate::numbers::{Card, Reading};
+
+/// A card of so many cells with these delay depths.
+fn card(cells: u32, depths: &[u32]) -> Card {
+    let mut card = Card { cells, delays: depths.len() as u32, ..Card::ZEROS };
+    card.depths[..depths.len()].copy_from_slice(depths);
+    card
+}
+
+/// The soil numbers of the page's example.
+const PLOT: [i64; 5] = [10_000_000, 1_500_000, 200, 100_000, 80];
+
+/// The first reading of the page's example.
+fn example() -> Reading {
+    Reading {
+        rain: 50_800,
+        septic: 1000,
+        etmin: 2000,
+        pet: 5000,
+        amc: 2,
+        head: 0x410c_0000,
+        ..Reading::default()
+    }
+}
