@@ -1,4 +1,5 @@
 -- What the proofs share, and that each contract settles its function.
 pub mod Copies
+pub mod Signs
 pub mod Added
 pub mod Settled

@@ -18,7 +18,7 @@ use Rattle.text.specs.Readings.{readReading, textOf}
 use Rattle.text.specs.Written.{writtenOf, bufferOf}
 use Rattle.text.specs.Cards.{parse, cardResult, soilResult, cardText, given, cardWritten, cardBuffer}
 use Rattle.text.specs.Lines.{soilForm}
-use Rattle.gateway.specs.Shapes.{cardWidth, cardOf, cardNumbers, readingWidth, readingOf, readingNumbers, amountsWidth, amountNumbers, amountsFrom, sheetWidth, sheetNumbers, sheetFrom, amountSigns, sheetSigns}
+use Rattle.gateway.specs.Shapes.{cardWidth, cardOf, cardNumbers, readingWidth, readingOf, readingNumbers, amountsWidth, amountNumbers, amountsFrom, sheetWidth, sheetNumbers, sheetFrom, amountsRecharge, sheetRecharge, signsFrom}
 
 -- the number of a call whose records are ill shaped
 abbrev pub illShaped : ℕ
@@ -44,7 +44,7 @@ abbrev pub sheetAfter : List ℤ → Added → List ℤ
 sheetAfter sheet x = cond (eqb (x .number) 0) (sheetNumbers (x .sheet)) sheet
 
 abbrev pub addable : ℕ → List ℤ → List ℤ → Bool
-addable number sheet amounts = eqb number 0 && sheetSigns sheet && amountSigns amounts
+addable number sheet amounts = eqb number 0 && signsFrom 0 sheetRecharge sheet && signsFrom 0 amountsRecharge amounts
 
 pub record AddGives (sheet : List ℤ) (number : ℕ) (amounts : List ℤ) (answer : ℕ) (sheet' : List ℤ) : Type 0 where
   pub number-is : answer ≡ cond (wide sheet sheetWidth && wide amounts amountsWidth) (cond (addable number sheet amounts) (addedOf (sheetFrom sheet) (Accepted (amountsFrom amounts)) .number) 11) illShaped

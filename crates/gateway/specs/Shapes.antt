@@ -1,7 +1,8 @@
 -- The records as rows of numbers, as a host hands them over. Definitions only.
-use Prim.Native.Nat.{ℕ}
-use mathlib.Core.Bool.{Bool, not, _&&_}
+use Prim.Native.Nat.{ℕ, suc}
+use mathlib.Core.Bool.{Bool, true, not, _&&_, _||_}
 use mathlib.Core.List.{List, [], _∷_}
+use lib.Dec.{eqb}
 use lib.IntN.{ℤ, pos, natAbs}
 use lib.ListN.{drop, getD}
 use Rattle.form.specs.Signed.{isNeg}
@@ -104,14 +105,14 @@ sheetFrom l =
       recharge = netAt l 9;
     }
 
--- no number is negative but recharge, which may be
-abbrev pub notBelow : List ℤ → ℕ → Bool
-notBelow l i = not (isNeg (getD l i (pos 0)))
+-- no number is negative but recharge, which may be: its places among the amounts and on the sheet
+abbrev pub amountsRecharge : ℕ
+amountsRecharge = 8
 
-unfoldable pub amountSigns : List ℤ → Bool
-amountSigns l =
-    notBelow l 0 && notBelow l 1 && notBelow l 2 && notBelow l 3 && notBelow l 4 && notBelow l 5 && notBelow l 6 && notBelow l 7 && notBelow l 9
+abbrev pub sheetRecharge : ℕ
+sheetRecharge = 9
 
-unfoldable pub sheetSigns : List ℤ → Bool
-sheetSigns l =
-    notBelow l 0 && notBelow l 1 && notBelow l 2 && notBelow l 3 && notBelow l 4 && notBelow l 5 && notBelow l 6 && notBelow l 7 && notBelow l 8
+-- no number of a row is negative, from place i on, but the one at place k
+unfoldable pub signsFrom : ℕ → ℕ → List ℤ → Bool
+signsFrom i k [] = true
+signsFrom i k (z ∷ zs) = (eqb i k || not (isNeg z)) && signsFrom (suc i) k zs

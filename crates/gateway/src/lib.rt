@@ -61,10 +61,10 @@ pub extern "C" fn waterbook_add(sheet: &mut [i64], number: u32, amounts: &[i64])
     if number != 0 {
         return 11;
     }
-    if !shapes::sheet_signs(sheet) {
+    if !shapes::signs(sheet, 9) {
         return 11;
     }
-    if !shapes::amount_signs(amounts) {
+    if !shapes::signs(amounts, 8) {
         return 11;
     }
     let added = shapes::sheet_from(sheet).add(Answer::Accepted(shapes::amounts_from(amounts)));

@@ -5,7 +5,7 @@ ghost use lib.IntN.{pos, natAbs};
 ghost use lib.ListN.{length, getD};
 ghost use Rattle.form.specs.Signed.{isNeg};
 ghost use Rattle.site.specs.SheetLaws.{AmountsWithin, Kept};
-ghost use Rattle.gateway.specs.Shapes.{cardOf, cardNumbers, readingOf, readingNumbers, amountNumbers, amountsFrom, sheetNumbers, sheetFrom, amountSigns, sheetSigns};
+ghost use Rattle.gateway.specs.Shapes.{cardOf, cardNumbers, readingOf, readingNumbers, amountNumbers, amountsFrom, sheetNumbers, sheetFrom, signsFrom};
 use cell::Amounts;
 use cell::Card;
 use cell::Net;
@@ -183,34 +183,15 @@ pub fn sheet_from(l: &[i64]) -> Sheet
     }
 }
 
-// No amount but recharge is negative.
-pub fn amount_signs(l: &[i64]) -> bool
-    requires { ⌜ length (now l) ≡ 10 ⌝ }
-    ensures { λ r. ⌜ r ≡ amountSigns (now (l .entry)) ⌝ }
+// No number is negative but the one at place k.
+pub fn signs(l: &[i64], k: usize) -> bool
+    ensures { λ r. ⌜ r ≡ signsFrom 0 k (now (l .entry)) ⌝ }
 {
-    !negative_at(l, 0)
-        & !negative_at(l, 1)
-        & !negative_at(l, 2)
-        & !negative_at(l, 3)
-        & !negative_at(l, 4)
-        & !negative_at(l, 5)
-        & !negative_at(l, 6)
-        & !negative_at(l, 7)
-        & !negative_at(l, 9)
-}
-
-// Neither the steps nor a sum but recharge is negative.
-pub fn sheet_signs(l: &[i64]) -> bool
-    requires { ⌜ length (now l) ≡ 10 ⌝ }
-    ensures { λ r. ⌜ r ≡ sheetSigns (now (l .entry)) ⌝ }
-{
-    !negative_at(l, 0)
-        & !negative_at(l, 1)
-        & !negative_at(l, 2)
-        & !negative_at(l, 3)
-        & !negative_at(l, 4)
-        & !negative_at(l, 5)
-        & !negative_at(l, 6)
-        & !negative_at(l, 7)
-        & !negative_at(l, 8)
+    let mut ok = true;
+    let mut i = 0;
+    while i < l.len() {
+        ok = ok & ((i == k) | !negative_at(l, i));
+        i += 1;
+    }
+    ok
 }
