@@ -119,6 +119,32 @@ fn refused(cells: u32, delays: u32, table: Table) -> Course {
     Course { site, readings }
 }
 
+/// A course of readings that all get one refusal number.
+fn refused_with(number: u32, delays: u32) -> Course {
+    let mut course = accepted(4, delays, Table::Deep);
+    let site = &mut course.site;
+    match number {
+        1 => site.card.depths[delays as usize - 1] = site.card.depths[delays as usize - 2],
+        2 => drop(site.rows.pop()),
+        4 => site.soil.chunks_mut(5).for_each(|plot| plot[4] = 0),
+        5 => site.rows.chunks_mut(32).for_each(|row| row[31] = 1),
+        _ => {}
+    }
+    for reading in &mut course.readings {
+        reading.count = 7;
+        match number {
+            3 => reading.cell = 4,
+            6 => reading.count = 6,
+            7 => reading.count = 8,
+            8 => reading.amc = 0,
+            9 => reading.head = 0x7fc0_0000,
+            10 => reading.head = 0x7149_f2ca,
+            _ => {}
+        }
+    }
+    course
+}
+
 /// The seconds that steps over slices take for a course, and the sum of their recharge and numbers.
 fn sliced_steps(step: Step, course: &Course, readings: &[[u32; 10]]) -> (f64, i64) {
     let (card, soil) = (card_numbers(&course.site.card), &course.site.soil);
@@ -319,6 +345,21 @@ fn race_cells() {
     }
 }
 
+/// The cost of a refused step, number by number.
+fn race_refusals() {
+    println!("\nCost of a refused step by its number, 4 cells, M = 5, in nanoseconds; the last ratio as above:\n");
+    println!("| number | proved | second | ratio | spread of the ratio | over slices |");
+    println!("|---|---|---|---|---|---|");
+    for number in 1..=10 {
+        let course = refused_with(number, 5);
+        let pairs = step_pairs(&course);
+        let nanos = |seconds: f64| seconds * 1e9 / (READINGS * TIMES) as f64;
+        let (proved, second) = (nanos(pairs.proved), nanos(pairs.second));
+        let (ratio, sliced) = (ratio_cells(&pairs.ratio), sliced_pairs(&course).ratio[1]);
+        println!("| {number} | {proved:.1} | {second:.1} | {ratio} | {sliced:.2} |");
+    }
+}
+
 /// The seconds of one run of a program over a journal.
 fn run_of(program: &str, journal: &[u8]) -> f64 {
     seconds(|| {
@@ -361,6 +402,7 @@ fn main() -> ExitCode {
     race_steps();
     race_journals();
     race_cells();
+    race_refusals();
     race_programs(waterbook, second);
     ExitCode::SUCCESS
 }

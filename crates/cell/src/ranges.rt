@@ -60,9 +60,10 @@ pub fn depths_ok(depths: [u32; 30], m: u32) -> bool
     ensures { λ r. ⌜ r ≡ depthsOk m 0 depths ⌝ }
 {
     let n = m as usize;
-    let used = rising(&depths[..n]);
-    let unused = none(&depths[n..]);
-    used & unused
+    if !rising(&depths[..n]) {
+        return false;
+    }
+    none(&depths[n..])
 }
 
 fn in_range(low: i64, high: i64, z: i64) -> bool

@@ -2,8 +2,8 @@
 use Rattle.cell.proofs.Loops.{rest-is, depths-split}
 use lib.Seq.{length-take-le}
 use lib.ListN.{length}
-use Prim.Native.Nat.{_-_}
-use mathlib.Core.Path.{_≡_, sym}
+use borrow.Author.Tests.{not-true, not-false}
+use mathlib.Core.Path.{_≡_, sym, _∙_}
 use native.Mathlib.Omega.{arith}
 use borrow.Author.Needs.{needs}
 use Rattle.cell.proofs.ranges.depths_ok.Statement.{statement}
@@ -17,6 +17,9 @@ slice-aggregate-rising c = sym (length-take-le _ (c .before .args .t1) (let e : 
 
 rising-requires : tie.Need-rising-requires
 rising-requires c κs = search needs
+
+returns : tie.Need-returns
+returns c = sym (depths-split (c .before .before .before .args .m) 0 (c .before .before .before .args .t1) ∙ rw (sym (c .before .rising .ensures) ∙ not-true _ (c .if1 .taken)))
 
 mul-none : tie.Need-mul-none
 mul-none c = search needs
@@ -33,8 +36,8 @@ part-none-end c = search needs
 none-requires : tie.Need-none-requires
 none-requires c κs = search needs
 
-returns : tie.Need-returns
-returns c = let e : length (c .before .before .before .before .before .args .t1) ≡ 30 = search needs in let r = rw e at (rest-is (c .before .before .before .before .before .args .m) (c .before .before .before .before .before .args .t1)) in rw (c .before .before .before .rising .ensures, rw r at (c .none .ensures)) (sym (depths-split (c .before .before .before .before .before .args .m) 0 (c .before .before .before .before .before .args .t1)))
+returns-2 : tie.Need-returns-2
+returns-2 c = let e : length (c .before .before .before .before .before .before .args .t1) ≡ 30 = search needs in let r = rw e at (rest-is (c .before .before .before .before .before .before .args .m) (c .before .before .before .before .before .before .args .t1)) in rw r at (c .none .ensures) ∙ sym (depths-split (c .before .before .before .before .before .before .args .m) 0 (c .before .before .before .before .before .before .args .t1) ∙ rw (sym (c .before .before .before .before .rising .ensures) ∙ not-false _ (c .before .before .before .if1 .left)))
 
 pub depths-ok-spec : {M : Type 1} → statement M
 depths-ok-spec =
@@ -43,9 +46,10 @@ depths-ok-spec =
     array-share-prefix-depths
     slice-aggregate-rising
     rising-requires
+    returns
     mul-none
     sub-none
     part-none-start
     part-none-end
     none-requires
-    returns)
+    returns-2)
