@@ -255,7 +255,8 @@ form-one (c ∷ f) s at w l e = go (isMark c) refl (form-one f s)
     go true m ih = rw m (by-val (valAt c s at) refl m (rw m at e) ih)
     go false m ih = rw m (by-lit (eqb (byteAt s at) c) refl m (rw m at e) ih)
 
-apart-stops : (f : List ℕ) (vs : List ℤ) (q : List ℕ) → apart f q ≡ true → stops (formText f vs ++ q) ≡ true
+-- what follows a value in a form is no digit
+pub apart-stops : (f : List ℕ) (vs : List ℤ) (q : List ℕ) → apart f q ≡ true → stops (formText f vs ++ q) ≡ true
 unfolding formText
 apart-stops [] vs q e = e
 apart-stops (d ∷ f) vs q e = go (isMark d) refl

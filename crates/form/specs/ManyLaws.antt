@@ -1,6 +1,6 @@
 -- Laws of a form that stands several times: its text is read back, and what is read is the one text. Assumes nothing.
 use mathlib.Core.Path.{_≡_, refl, sym, ap, _∙_}
-use mathlib.Core.List.{List, [], _∷_, _++_, append-assoc, append-nil}
+use mathlib.Core.List.{List, [], _∷_, _++_, map, map-append, append-assoc, append-nil}
 use mathlib.Core.Bool.{Bool, true, false, cond, false≢true}
 use Prim.Native.Nat.{ℕ, zero, suc, _+_, _-_, _*_, _≤_, _<_}
 use native.Mathlib.Nat.{add-zero, add-assoc}
@@ -9,7 +9,8 @@ use lib.ListN.{length, take, drop, length-append, length-drop, take-append-drop}
 use lib.Seq.{take-at, drop-at, drop-drop, take-append-le, drop-append-le}
 use lib.IntN.{ℤ}
 use Rattle.form.specs.Form.{Out, formAt, formText, marks, isMark, okVals, fits}
-use Rattle.form.specs.FormLaws.{form-one, form-back, ok-lit, parted, all-bytes, and-i, and-1, and-2}
+use Rattle.form.specs.DecLaws.{stops}
+use Rattle.form.specs.FormLaws.{form-one, form-back, ok-lit, ok-words, plain, unword, smallZ, allSmall, small-oks, apart, apart-stops, parted, all-bytes, and-i, and-1, and-2}
 use Rattle.form.specs.Many.{Run, onto, manyAt, rowsText, okRows, rowsFit}
 use Rattle.form.specs.RunLaws.{form-length}
 
@@ -74,6 +75,37 @@ many-back f q h g (suc n) vs p e =
     let r1 = rw (append-assoc p (formText f a) (rowsText n f b ++ q), length-append p (formText f a), add-assoc (length p) (length (formText f a)) (length (rowsText n f b))) at r in
     rw (append-assoc (formText f a) (rowsText n f b) q, k, length-append (formText f a) (rowsText n f b))
     (ap (onto a) r1 ∙ ap (ran (suc n) (length p + (length (formText f a) + length (rowsText n f b)))) (take-append-drop w vs))
+
+-- rows of a form that starts with a byte that is no digit, and what stands behind them: no digit comes first
+pub rows-stops : (f : List ℕ) → ((q : List ℕ) → apart f q ≡ true) → (n : ℕ) (vs : List ℤ) (q : List ℕ) → stops q ≡ true → stops (rowsText n f vs ++ q) ≡ true
+unfolding rowsText
+rows-stops f h zero vs q g = g
+rows-stops f h (suc n) vs q g =
+    let a : List ℤ = take (marks f) vs in
+    let r : List ℕ = rowsText n f (drop (marks f) vs) in
+    rw (append-assoc (formText f a) r q) (apart-stops f a (r ++ q) (h (r ++ q)))
+
+-- ---- which values rows can carry
+-- values of rows of a form with no signed value are natural numbers of 32 bits
+pub rows-words : (n : ℕ) (f : List ℕ) (vs : List ℤ) → plain f ≡ true → okRows n f vs ≡ true → map unword vs ≡ vs
+unfolding okRows
+rows-words zero f [] p o = refl
+rows-words zero f (z ∷ zs) p o = absurd (false≢true o)
+rows-words (suc n) f vs p o =
+    let a : List ℤ = take (marks f) vs in
+    let b : List ℤ = drop (marks f) vs in
+    let x : map unword a ≡ a = ok-words f a p (and-1 (okVals f a) (okRows n f b) o) in
+    let y : map unword b ≡ b = rows-words n f b p (and-2 (okVals f a) (okRows n f b) o) in
+    let e : a ++ b ≡ vs = take-append-drop (marks f) vs in
+    ap (map unword) (sym e) ∙ map-append unword a b ∙ rw (x, y) e
+
+-- and rows of one such value each carry any of them
+pub rows-small : (f : List ℕ) → plain f ≡ true → marks f ≡ 1 → (vs : List ℤ) → allSmall vs ≡ true → okRows (length vs) f vs ≡ true
+unfolding okRows
+rows-small f p m [] e = refl
+rows-small f p m (z ∷ vs) e =
+    let k : okVals f (z ∷ []) ≡ true = small-oks f (z ∷ []) p (and-i (smallZ z) true (and-1 (smallZ z) (allSmall vs) e) refl) (sym m) in
+    rw m (and-i (okVals f (z ∷ [])) (okRows (length vs) f vs) k (rows-small f p m vs (and-2 (smallZ z) (allSmall vs) e)))
 
 -- ---- writing rows
 

@@ -2,4 +2,6 @@
 pub mod Copies
 pub mod Signs
 pub mod Added
+pub mod Printable
+pub mod Lines
 pub mod Settled

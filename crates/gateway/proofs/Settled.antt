@@ -19,6 +19,10 @@ use Rattle.gateway.proofs.waterbook_read_reading.Kinds as read-reading
 use Rattle.gateway.proofs.waterbook_read_reading.Reads as read-reading-reads
 use Rattle.gateway.proofs.waterbook_write_reading.Kinds as write-reading
 use Rattle.gateway.proofs.waterbook_write_reading.Reads as write-reading-reads
+use Rattle.gateway.proofs.waterbook_write_answer.Kinds as write-answer
+use Rattle.gateway.proofs.waterbook_write_answer.Reads as write-answer-reads
+use Rattle.gateway.proofs.waterbook_write_sheet.Kinds as write-sheet
+use Rattle.gateway.proofs.waterbook_write_sheet.Reads as write-sheet-reads
 use Rattle.gateway.proofs.waterbook_book.Kinds as book
 use Rattle.gateway.proofs.waterbook_book.Reads as book-reads
 
@@ -49,6 +53,14 @@ read-reading-settled κs a r r' x x' p p' = (p .number-is ∙ sym (p' .number-is
 pub write-reading-settled : (κs : Lfts 3) (a : Dens κs write-reading.ps) (r r' : resT write-reading.r κs .Denot) (x x' : AtExit (endedOf 3 write-reading.ps write-reading.r) κs) → write-reading-reads.Post κs a r x → write-reading-reads.Post κs a r' x'
     → (r ≡ r') × (now (x .1 .0) ≡ now (x' .1 .0)) × (now (x .1 .1 .0) ≡ now (x' .1 .1 .0))
 write-reading-settled κs a r r' x x' p p' = (p .number-is ∙ sym (p' .number-is), p .buffer-is ∙ sym (p' .buffer-is), p .got-is ∙ sym (p' .got-is))
+
+pub write-answer-settled : (κs : Lfts 3) (a : Dens κs write-answer.ps) (r r' : resT write-answer.r κs .Denot) (x x' : AtExit (endedOf 3 write-answer.ps write-answer.r) κs) → write-answer-reads.Post κs a r x → write-answer-reads.Post κs a r' x'
+    → (r ≡ r') × (now (x .1 .1 .1 .0) ≡ now (x' .1 .1 .1 .0)) × (now (x .1 .1 .1 .1 .0) ≡ now (x' .1 .1 .1 .1 .0))
+write-answer-settled κs a r r' x x' p p' = (p .number-is ∙ sym (p' .number-is), p .buffer-is ∙ sym (p' .buffer-is), p .got-is ∙ sym (p' .got-is))
+
+pub write-sheet-settled : (κs : Lfts 3) (a : Dens κs write-sheet.ps) (r r' : resT write-sheet.r κs .Denot) (x x' : AtExit (endedOf 3 write-sheet.ps write-sheet.r) κs) → write-sheet-reads.Post κs a r x → write-sheet-reads.Post κs a r' x'
+    → (r ≡ r') × (now (x .1 .0) ≡ now (x' .1 .0)) × (now (x .1 .1 .0) ≡ now (x' .1 .1 .0))
+write-sheet-settled κs a r r' x x' p p' = (p .number-is ∙ sym (p' .number-is), p .buffer-is ∙ sym (p' .buffer-is), p .got-is ∙ sym (p' .got-is))
 
 pub book-settled : (κs : Lfts 2) (a : Dens κs book.ps) (r r' : resT book.r κs .Denot) (x x' : AtExit (endedOf 2 book.ps book.r) κs) → book-reads.Post κs a r x → book-reads.Post κs a r' x'
     → (r ≡ r') × (now (x .1 .0) ≡ now (x' .1 .0))

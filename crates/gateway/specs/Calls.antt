@@ -3,7 +3,7 @@ use Prim.Native.Nat.{ℕ, _*_}
 use mathlib.Core.Path.{_≡_}
 use mathlib.Core.Bool.{Bool, cond, _&&_}
 use mathlib.Core.List.{List, [], _∷_}
-use lib.Dec.{eqb}
+use lib.Dec.{eqb, leb}
 use lib.IntN.{ℤ}
 use lib.ListN.{length}
 use Rattle.form.specs.Many.{okRows}
@@ -15,10 +15,11 @@ use Rattle.site.specs.Site.{siteAnswer, siteRows, clearNumber, clearRows}
 use Rattle.site.specs.Sheet.{addedOf}
 use Rattle.text.specs.declared.Written.{Written}
 use Rattle.text.specs.Readings.{readReading, textOf}
-use Rattle.text.specs.Written.{writtenOf, bufferOf}
+use Rattle.text.specs.Printed.{lineText, sheetText}
+use Rattle.text.specs.Written.{noText, writtenOf, bufferOf}
 use Rattle.text.specs.Cards.{parse, cardResult, soilResult, cardText, given, cardWritten, cardBuffer}
 use Rattle.text.specs.Lines.{soilForm}
-use Rattle.gateway.specs.Shapes.{cardWidth, cardOf, cardNumbers, readingWidth, readingOf, readingNumbers, amountsWidth, amountNumbers, amountsFrom, sheetWidth, sheetNumbers, sheetFrom, amountsRecharge, sheetRecharge, signsFrom}
+use Rattle.gateway.specs.Shapes.{cardWidth, cardOf, cardNumbers, readingWidth, readingOf, readingNumbers, amountsWidth, amountNumbers, amountsFrom, sheetWidth, sheetNumbers, sheetFrom, amountsRecharge, sheetRecharge, signsFrom, zeros}
 
 -- the number of a call whose records are ill shaped
 abbrev pub illShaped : ℕ
@@ -82,3 +83,24 @@ pub record WritesReading (reading buf got : List ℕ) (number : ℕ) (buf' got' 
   pub number-is : number ≡ cond (wide reading readingWidth && wide got gotWidth) (writtenOf (textOf (readingOf reading)) buf .number) illShaped
   pub buffer-is : buf' ≡ cond (wide reading readingWidth && wide got gotWidth) (bufferOf (textOf (readingOf reading)) buf) buf
   pub got-is : got' ≡ cond (wide reading readingWidth && wide got gotWidth) (writtenOf (textOf (readingOf reading)) buf .len ∷ 0 ∷ []) got
+
+-- ---- the line of an answer, and of a sheet
+-- a host's number and amounts are an answer of a step: accepted, and no amount negative but recharge; or refused by a check of a step, with ten zeros
+unfoldable pub isAnswer : ℕ → List ℤ → Bool
+isAnswer number amounts = cond (eqb number 0) (signsFrom 0 amountsRecharge amounts) (leb number 10 && zeros amounts)
+
+-- writing a line, where there is one to write
+abbrev pub lineWrites : Bool → List ℕ → List ℕ → Written
+lineWrites good t b = cond good (writtenOf t b) (noText 12)
+
+pub record WritesLine (shaped good : Bool) (text buf got : List ℕ) (number : ℕ) (buf' got' : List ℕ) : Type 0 where
+  pub number-is : number ≡ cond shaped (lineWrites good text buf .number) illShaped
+  pub buffer-is : buf' ≡ cond shaped (cond good (bufferOf text buf) buf) buf
+  pub got-is : got' ≡ cond shaped (lineWrites good text buf .len ∷ 0 ∷ []) got
+
+abbrev pub WritesAnswer : ℕ → ℕ → List ℤ → List ℕ → List ℕ → ℕ → List ℕ → List ℕ → Type 0
+WritesAnswer cell number amounts buf got =
+    WritesLine (wide amounts amountsWidth && wide got gotWidth) (isAnswer number amounts) (lineText cell number (amountsFrom amounts)) buf got
+
+abbrev pub WritesSheet : List ℤ → List ℕ → List ℕ → ℕ → List ℕ → List ℕ → Type 0
+WritesSheet sheet buf got = WritesLine (wide sheet sheetWidth && wide got gotWidth) (signsFrom 0 sheetRecharge sheet) (sheetText (sheetFrom sheet)) buf got

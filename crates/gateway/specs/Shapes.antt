@@ -5,6 +5,8 @@ use mathlib.Core.List.{List, [], _∷_}
 use lib.Dec.{eqb}
 use lib.IntN.{ℤ, pos, natAbs}
 use lib.ListN.{drop, getD}
+use mir.Syntax.{w64}
+use mir.Val.{SFits}
 use Rattle.form.specs.Signed.{isNeg}
 use Rattle.head.specs.Pattern.{patternOf, carriedOf}
 use Rattle.cell.specs.declared.Amounts.{Amounts}
@@ -105,6 +107,10 @@ sheetFrom l =
       recharge = netAt l 9;
     }
 
+-- each number of a lent row fits its 64 bits
+abbrev pub AllFit : List ℤ → Type 0
+AllFit l = (i : ℕ) → SFits w64 (getD l i (pos 0))
+
 -- no number is negative but recharge, which may be: its places among the amounts and on the sheet
 abbrev pub amountsRecharge : ℕ
 amountsRecharge = 8
@@ -116,3 +122,8 @@ sheetRecharge = 9
 unfoldable pub signsFrom : ℕ → ℕ → List ℤ → Bool
 signsFrom i k [] = true
 signsFrom i k (z ∷ zs) = (eqb i k || not (isNeg z)) && signsFrom (suc i) k zs
+
+-- each number of a row is 0
+unfoldable pub zeros : List ℤ → Bool
+zeros [] = true
+zeros (z ∷ zs) = eqb (natAbs z) 0 && zeros zs

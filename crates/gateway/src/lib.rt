@@ -1,6 +1,6 @@
 // The static library of a gateway: the calls that a host in C or Rust makes. include/waterbook.h says what each number means.
 ghost use mathlib.Core.Path.{_≡_};
-ghost use Rattle.gateway.specs.Calls.{StepGives, ClearGives, AddGives, ReadsCard, ReadsReading, WritesCard, WritesReading};
+ghost use Rattle.gateway.specs.Calls.{StepGives, ClearGives, AddGives, ReadsCard, ReadsReading, WritesCard, WritesReading, WritesAnswer, WritesSheet};
 ghost use Rattle.journal.specs.Book.{BookGives};
 use cell::Answer;
 
@@ -150,6 +150,56 @@ pub extern "C" fn waterbook_write_reading(reading: &[u32], buf: &mut [u8], got: 
         return 255;
     }
     let w = text::reading::write(shapes::reading_of(reading), buf);
+    got[0] = w.len;
+    got[1] = 0;
+    w.number
+}
+
+// Writes the line of an answer at the start of a buffer.
+#[no_mangle]
+pub extern "C" fn waterbook_write_answer(
+    cell: u32,
+    number: u32,
+    amounts: &[i64],
+    buf: &mut [u8],
+    got: &mut [usize],
+) -> u32
+    ensures { λ n. ⌜ WritesAnswer cell number (now (amounts .entry)) (now (buf .entry)) (now (got .entry)) n (now (buf .exit)) (now (got .exit)) ⌝ }
+{
+    if amounts.len() != 10 {
+        return 255;
+    }
+    if got.len() != 2 {
+        return 255;
+    }
+    if !shapes::is_answer(number, amounts) {
+        got[0] = 0;
+        got[1] = 0;
+        return 12;
+    }
+    let w = text::print::line(cell, number, shapes::amounts_from(amounts), buf);
+    got[0] = w.len;
+    got[1] = 0;
+    w.number
+}
+
+// Writes the line of a sheet at the start of a buffer.
+#[no_mangle]
+pub extern "C" fn waterbook_write_sheet(sheet: &[i64], buf: &mut [u8], got: &mut [usize]) -> u32
+    ensures { λ n. ⌜ WritesSheet (now (sheet .entry)) (now (buf .entry)) (now (got .entry)) n (now (buf .exit)) (now (got .exit)) ⌝ }
+{
+    if sheet.len() != 10 {
+        return 255;
+    }
+    if got.len() != 2 {
+        return 255;
+    }
+    if !shapes::signs(sheet, 9) {
+        got[0] = 0;
+        got[1] = 0;
+        return 12;
+    }
+    let w = text::print::sheet(shapes::sheet_from(sheet), buf);
     got[0] = w.len;
     got[1] = 0;
     w.number

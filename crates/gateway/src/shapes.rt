@@ -3,9 +3,12 @@ ghost use mathlib.Core.Path.{_≡_};
 ghost use Prim.Native.Nat.{_<_};
 ghost use lib.IntN.{pos, natAbs};
 ghost use lib.ListN.{length, getD};
+ghost use mir.Syntax.{w64};
+ghost use mir.Val.{SFits};
 ghost use Rattle.form.specs.Signed.{isNeg};
 ghost use Rattle.site.specs.SheetLaws.{AmountsWithin, Kept};
-ghost use Rattle.gateway.specs.Shapes.{cardOf, cardNumbers, readingOf, readingNumbers, amountNumbers, amountsFrom, sheetNumbers, sheetFrom, signsFrom};
+ghost use Rattle.gateway.specs.Shapes.{cardOf, cardNumbers, readingOf, readingNumbers, amountNumbers, amountsFrom, sheetNumbers, sheetFrom, signsFrom, zeros, AllFit};
+ghost use Rattle.gateway.specs.Calls.{isAnswer};
 use cell::Amounts;
 use cell::Card;
 use cell::Net;
@@ -26,14 +29,14 @@ fn signed(z: Net) -> i64
 // The number at a place, its size, and whether it is negative.
 fn number_at(l: &[i64], i: usize) -> i64
     requires { ⌜ i < length (now l) ⌝ }
-    ensures { λ r. ⌜ r ≡ getD (now (l .entry)) i (pos 0) ⌝ }
+    ensures { λ r. ⌜ (r ≡ getD (now (l .entry)) i (pos 0)) × SFits w64 (getD (now (l .entry)) i (pos 0)) ⌝ }
 {
     l[i]
 }
 
 fn size_at(l: &[i64], i: usize) -> u64
     requires { ⌜ i < length (now l) ⌝ }
-    ensures { λ r. ⌜ r ≡ natAbs (getD (now (l .entry)) i (pos 0)) ⌝ }
+    ensures { λ r. ⌜ (r ≡ natAbs (getD (now (l .entry)) i (pos 0))) × SFits w64 (getD (now (l .entry)) i (pos 0)) ⌝ }
 {
     size(l[i])
 }
@@ -133,7 +136,7 @@ pub fn put_amounts(a: Amounts, out: &mut [i64])
 
 pub fn amounts_from(l: &[i64]) -> Amounts
     requires { ⌜ length (now l) ≡ 10 ⌝ }
-    ensures { λ r. ⌜ r ≡ amountsFrom (now (l .entry)) ⌝ }
+    ensures { λ r. ⌜ (r ≡ amountsFrom (now (l .entry))) × AllFit (now (l .entry)) ⌝ }
 {
     Amounts {
         inflow: Water(size_at(l, 0)),
@@ -167,7 +170,7 @@ pub fn put_sheet(s: Sheet, out: &mut [i64])
 
 pub fn sheet_from(l: &[i64]) -> Sheet
     requires { ⌜ length (now l) ≡ 10 ⌝ }
-    ensures { λ r. ⌜ r ≡ sheetFrom (now (l .entry)) ⌝ }
+    ensures { λ r. ⌜ (r ≡ sheetFrom (now (l .entry))) × AllFit (now (l .entry)) ⌝ }
 {
     Sheet {
         steps: size_at(l, 0),
@@ -194,4 +197,30 @@ pub fn signs(l: &[i64], k: usize) -> bool
         i += 1;
     }
     ok
+}
+
+// Each number is 0.
+fn all_zero(l: &[i64]) -> bool
+    ensures { λ r. ⌜ r ≡ zeros (now (l .entry)) ⌝ }
+{
+    let mut ok = true;
+    let mut i = 0;
+    while i < l.len() {
+        ok = ok & (size_at(l, i) == 0);
+        i += 1;
+    }
+    ok
+}
+
+// A host's number and amounts are an answer of a step.
+pub fn is_answer(number: u32, amounts: &[i64]) -> bool
+    ensures { λ r. ⌜ r ≡ isAnswer number (now (amounts .entry)) ⌝ }
+{
+    if number == 0 {
+        return signs(amounts, 8);
+    }
+    if 10 < number {
+        return false;
+    }
+    all_zero(amounts)
 }

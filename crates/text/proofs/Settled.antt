@@ -13,6 +13,8 @@ use Rattle.text.proofs.reading.read.Kinds as reading-read
 use Rattle.text.proofs.reading.read.Reads as reading-read-reads
 use Rattle.text.proofs.reading.write.Kinds as reading-write
 use Rattle.text.proofs.reading.write.Reads as reading-write-reads
+use Rattle.text.proofs.print.line.Kinds as line
+use Rattle.text.proofs.print.line.Reads as line-reads
 use Rattle.text.proofs.print.answer.Kinds as answer
 use Rattle.text.proofs.print.answer.Reads as answer-reads
 use Rattle.text.proofs.print.sheet.Kinds as sheet
@@ -29,6 +31,9 @@ reading-read-settled κs a r r' x x' p p' = p ∙ sym p'
 
 pub reading-write-settled : (κs : Lfts 1) (a : Dens κs reading-write.ps) (r r' : resT reading-write.r κs .Denot) (x x' : AtExit (endedOf 1 reading-write.ps reading-write.r) κs) → reading-write-reads.Post κs a r x → reading-write-reads.Post κs a r' x' → (r ≡ r') × (now (x .1 .0) ≡ now (x' .1 .0))
 reading-write-settled κs a r r' x x' p p' = (p .0 ∙ sym (p' .0), p .1 ∙ sym (p' .1))
+
+pub line-settled : (κs : Lfts 1) (a : Dens κs line.ps) (r r' : resT line.r κs .Denot) (x x' : AtExit (endedOf 1 line.ps line.r) κs) → line-reads.Post κs a r x → line-reads.Post κs a r' x' → (r ≡ r') × (now (x .1 .1 .1 .0) ≡ now (x' .1 .1 .1 .0))
+line-settled κs a r r' x x' p p' = (p .written ∙ sym (p' .written), p .buffer ∙ sym (p' .buffer))
 
 pub answer-settled : (κs : Lfts 1) (a : Dens κs answer.ps) (r r' : resT answer.r κs .Denot) (x x' : AtExit (endedOf 1 answer.ps answer.r) κs) → answer-reads.Post κs a r x → answer-reads.Post κs a r' x' → (r ≡ r') × (now (x .1 .1 .0) ≡ now (x' .1 .1 .0))
 answer-settled κs a r r' x x' p p' = (p .written ∙ sym (p' .written), p .buffer ∙ sym (p' .buffer))

@@ -1,6 +1,6 @@
 -- Each card has one text, and what was written is read back. Assumes nothing.
 use mathlib.Core.Path.{_≡_, refl, sym, ap, _∙_}
-use mathlib.Core.List.{List, [], _∷_, _++_, map, append-assoc}
+use mathlib.Core.List.{List, [], _∷_, _++_, map, map-append, append-assoc}
 use mathlib.Core.Bool.{Bool, true, false, false≢true}
 use Prim.Native.Nat.{ℕ, zero, suc, _+_, _-_, _*_, _≤_, _<_}
 use native.Mathlib.Nat.{sub-zero, zero-add}
@@ -15,12 +15,12 @@ use native.Mathlib.Numerals.{add-one}
 use Rattle.text.specs.declared.card.Counts.{Counts}
 use Rattle.text.specs.declared.card.CardRead.{CardRead}
 use Rattle.cell.specs.declared.Card.{Card}
-use Rattle.form.specs.Form.{Out, formAt, formText, byteAt, marks, okVals}
-use Rattle.form.specs.FormLaws.{form-one, form-back, ok-length, ok-words, plain, parted, read, unword, cells-take, take-byte, byte-is, byte-seam, small-oks, smallZ, allSmall, and-i, and-1, and-2}
+use Rattle.form.specs.Form.{Out, formAt, formText, byteAt}
+use Rattle.form.specs.FormLaws.{form-one, form-back, ok-length, ok-words, apart-stops, parted, read, unword, cells-take, take-byte, byte-is, byte-seam, small-oks, allSmall, and-i, and-1, and-2}
 use Rattle.form.specs.Many.{Run, manyAt, rowsText, okRows, rowsFit}
 use Rattle.form.specs.RunLaws.{many-length}
 use Rattle.form.specs.DecLaws.{stops}
-use Rattle.form.specs.ManyLaws.{many-one, many-back, ran, rows-fit, rows-front, good-most}
+use Rattle.form.specs.ManyLaws.{many-one, many-back, ran, rows-fit, rows-front, good-most, rows-stops, rows-words, rows-small}
 use Rattle.form.specs.Words.{wordOf}
 use Rattle.text.specs.Lines.{cardForm, depthForm, soilForm}
 use Rattle.text.specs.Cards.{rangeCounts, countsOf, depthsAt, parse, cardResult, soilResult, cardText, cardParts, allZero, given, Wrote}
@@ -28,25 +28,9 @@ use Rattle.text.specs.Written.{noText}
 use Rattle.text.specs.ReadingLaws.{write-short, write-fits}
 use Rattle.form.specs.Put.{sets-step}
 
-map-app : {A B : Type 0} (g : A → B) (a b : List A) → map g (a ++ b) ≡ map g a ++ map g b
-map-app g [] b = refl
-map-app g (x ∷ a) b = rw (map-app g a b)
-
 map-two : (vs : List ℤ) → map pos (map wordOf vs) ≡ map unword vs
 map-two [] = refl
 map-two (z ∷ vs) = rw (map-two vs)
-
-rows-words : (n : ℕ) (f : List ℕ) (vs : List ℤ) → plain f ≡ true → okRows n f vs ≡ true → map unword vs ≡ vs
-unfolding okRows
-rows-words zero f [] p o = refl
-rows-words zero f (z ∷ zs) p o = absurd (false≢true o)
-rows-words (suc n) f vs p o =
-    let a : List ℤ = take (marks f) vs in
-    let b : List ℤ = drop (marks f) vs in
-    let x : map unword a ≡ a = ok-words f a p (and-1 (okVals f a) (okRows n f b) o) in
-    let y : map unword b ≡ b = rows-words n f b p (and-2 (okVals f a) (okRows n f b) o) in
-    let e : a ++ b ≡ vs = take-append-drop (marks f) vs in
-    ap (map unword) (sym e) ∙ map-app unword a b ∙ rw (x, y) e
 
 -- ---- the first line
 range-ok : (n a b : ℕ) → rangeCounts n a b .ok ≡ true → (rangeCounts n a b ≡ record { ok = true; next = n; cells = a; delays = b }) × (1 ≤ a) × (a ≤ 256) × (b ≤ 30)
@@ -124,7 +108,7 @@ kept-depths : (n : ℕ) (vs : List ℤ) → okRows n depthForm vs ≡ true → l
 kept-depths n vs o c l =
     let z : List ℤ = replicate 30 (pos 0) in
     let e : sets z 0 vs ≡ vs ++ drop (0 + length vs) z = sets-eq vs z 0 (omega arith) in
-    rw (e, map-app wordOf vs (drop (0 + length vs) z), take-at (map wordOf vs) (map wordOf (drop (0 + length vs) z)) n (length-map vs wordOf ∙ c))
+    rw (e, map-append wordOf vs (drop (0 + length vs) z), take-at (map wordOf vs) (map wordOf (drop (0 + length vs) z)) n (length-map vs wordOf ∙ c))
     (map-two vs ∙ rows-words n depthForm vs refl o)
 
 -- a card that is read has a good first line, good depths and good soil lines
@@ -192,14 +176,8 @@ pub record CardFits (c : Card) (soil : List ℤ) : Type 0 where
   pub unused : map wordOf (sets (replicate 30 (pos 0)) 0 (map pos (take (c .delays) (c .depths)))) ≡ c .depths
   pub rows : okRows (c .cells) soilForm soil ≡ true
 
-rows-stop : (n : ℕ) (vs : List ℤ) (x : List ℕ) → stops (rowsText n depthForm vs ++ (10 ∷ x)) ≡ true
-unfolding rowsText formText
-rows-stop zero vs x = refl
-rows-stop (suc n) vs x = refl
-
 depth-parted : (vs : List ℤ) (x : List ℕ) → parted depthForm (formText depthForm vs ++ x) ≡ true
-unfolding formText
-depth-parted vs x = refl
+depth-parted vs x = and-i (stops (formText depthForm vs ++ x)) true (apart-stops depthForm vs x refl) refl
 
 module _ (c : Card) (soil : List ℤ) (q : List ℕ) (ok : CardFits c soil) where
   abbrev ta : List ℕ
@@ -233,7 +211,7 @@ module _ (c : Card) (soil : List ℤ) (q : List ℕ) (ok : CardFits c soil) wher
       let r : c .delays < 4294967296 = omega (arith, ok .few) in
       let f = form-back cardForm (pos (c .cells) ∷ pos (c .delays) ∷ []) [] (tb ++ (10 ∷ (tc ++ q)))
       (small-oks cardForm (pos (c .cells) ∷ pos (c .delays) ∷ []) refl (and-i _ _ (lt-ltb _ _ p) (and-i _ _ (lt-ltb _ _ r) refl)) refl)
-      (and-i (stops (tb ++ (10 ∷ (tc ++ q)))) true (rows-stop (c .delays) vd (tc ++ q)) refl) in
+      (and-i (stops (tb ++ (10 ∷ (tc ++ q)))) true (rows-stops depthForm (λ x. refl) (c .delays) vd (10 ∷ (tc ++ q)) refl) refl) in
       let z : 0 + length ta ≡ length ta = omega arith in
       rw (as-head, f, z, lt-ltb (c .cells) 4294967296 p, lt-ltb (c .delays) 4294967296 r, le-ltb (c .cells) 1 (ok .some), le-ltb 256 (c .cells) (ok .most), le-ltb 30 (c .delays) (ok .few))
 
@@ -302,7 +280,7 @@ parts-text c soil h =
     let a : List ℕ = take m (c .depths) in
     let b : List ℕ = drop m (c .depths) in
     let l : length (map pos a) ≡ m * 1 = length-map a pos ∙ length-take-le m (c .depths) h ∙ omega arith in
-    let e : map pos (c .depths) ≡ map pos a ++ map pos b = ap (map pos) (sym (take-append-drop m (c .depths))) ∙ map-app pos a b in
+    let e : map pos (c .depths) ≡ map pos a ++ map pos b = ap (map pos) (sym (take-append-drop m (c .depths))) ∙ map-append pos a b in
     ap (λ (x : List ℕ). formText cardForm (pos (c .cells) ∷ pos (c .delays) ∷ []) ++ (x ++ (10 ∷ rowsText (c .cells) soilForm soil)))
     (ap (rowsText m depthForm) e ∙ rows-front m depthForm (map pos a) (map pos b) l)
 
@@ -370,14 +348,6 @@ small-back [] e = refl
 small-back (x ∷ ds) e =
     rw (and-1 (ltb x 4294967296) (allSmall (map pos ds)) e, small-back ds (and-2 (ltb x 4294967296) (allSmall (map pos ds)) e))
 
-depth-rows : (vs : List ℤ) → allSmall vs ≡ true → okRows (length vs) depthForm vs ≡ true
-unfolding okRows
-depth-rows [] e = refl
-depth-rows (z ∷ vs) e =
-    and-i (okVals depthForm (z ∷ [])) (okRows (length vs) depthForm vs)
-    (small-oks depthForm (z ∷ []) refl (and-i (smallZ z) true (and-1 (smallZ z) (allSmall vs) e) refl) refl)
-    (depth-rows vs (and-2 (smallZ z) (allSmall vs) e))
-
 given-parts : (c : Card) → given c ≡ true → (1 ≤ c .cells) × (allZero (drop (c .delays) (c .depths)) ≡ true)
 unfolding given
 given-parts c e = go (ltb (c .cells) 1) refl (ltb 256 (c .cells)) refl (ltb 30 (c .delays)) refl
@@ -407,8 +377,8 @@ card-fits c soil g o l a =
       some = so;
       most = mo;
       few = fe;
-      depths = rw lv at (depth-rows (map pos t) at);
-      unused = rw (e, map-app wordOf (map pos t) r, small-back t at, k) (take-append-drop m (c .depths));
+      depths = rw lv at (rows-small depthForm refl refl (map pos t) at);
+      unused = rw (e, map-append wordOf (map pos t) r, small-back t at, k) (take-append-drop m (c .depths));
       rows = o;
     }
 

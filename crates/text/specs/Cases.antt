@@ -17,7 +17,7 @@ use Rattle.cell.specs.declared.Refusal.the-variants.{Old}
 use Rattle.cell.specs.Water.{water, net}
 use Rattle.text.specs.Readings.{readReading}
 use Rattle.text.specs.Cards.{parse, countsOf, rangeCounts, depthsAt, cardText}
-use Rattle.text.specs.Printed.{answerText, sheetText}
+use Rattle.text.specs.Printed.{answerText, lineText, sheetText}
 
 -- the card
 pub card : Card
@@ -68,5 +68,5 @@ pub printed : (answerText 0 (Accepted (record { inflow = water 51800; runoff = w
     ≡ bytes "steps=2 inflow=51800 runoff=14287 etvad=2000 etstor=0 etsat=1333 drain=0 release=34513 stored=34513 recharge=34180\n")
     × (sheetText (record { steps = 1; inflow = water 1000; runoff = water 0; etvad = water 0; etstor = water 0; etsat = water 5000; drain = water 50000; release = water 0; stored = water 0; recharge = net (negsuc 53999) })
     ≡ bytes "steps=1 inflow=1000 runoff=0 etvad=0 etstor=0 etsat=5000 drain=50000 release=0 stored=0 recharge=-54000\n")
-unfolding answerText sheetText formText valText dec decF hex
+unfolding answerText lineText sheetText formText valText dec decF hex
 printed = (refl, refl, refl, refl, refl)

@@ -21,7 +21,7 @@ use Rattle.form.specs.Words.{word-lt}
 use Rattle.text.specs.Lines.{readingForm, answerForm, sheetForm}
 use Rattle.text.specs.Readings.{readReading, valsOf, textOf}
 use Rattle.text.specs.ReadingLaws.{one-text}
-use Rattle.text.specs.Printed.{answerVals, answerText, sheetVals, sheetText}
+use Rattle.text.specs.Printed.{answerVals, lineText, answerText, sheetVals, sheetText}
 
 -- a reading takes 73 bytes at the least, all of them from the text
 pub reading-takes : (s : List ℕ) → readReading s .number ≡ 0 → (73 ≤ readReading s .taken) × (readReading s .taken ≤ length s)
@@ -47,7 +47,7 @@ reading-cell s = go (formAt readingForm s 0 .ok) refl
 
 -- an answer's line has 342 bytes at the most
 pub answer-most : (cell : ℕ) (answer : Answer) → cell < 2 ^ 32 → AmountsWithin (amountsOf answer) → length (answerText cell answer) ≤ 342
-unfolding answerText
+unfolding answerText lineText
 answer-most cell answer c w =
     text-most answerForm (answerVals cell (numberOf answer) (amountsOf answer))
     (omega arith, (omega (arith, number-most answer), (omega (arith, w .inflow), (omega (arith, w .runoff), (omega (arith, w .etvad), (omega (arith, w .etstor), (omega (arith, w .etsat), (omega (arith, w .drain), (omega (arith, w .release), (omega (arith, w .stored), (omega (arith, w .recharge), (omega (arith, w .left), tt))))))))))))
@@ -62,7 +62,7 @@ sheet-most s h =
 
 -- ---- each is one line
 pub answer-line : (cell : ℕ) (answer : Answer) → lineEnds (answerText cell answer) ≡ 1
-unfolding answerText
+unfolding answerText lineText
 answer-line cell answer = ends-form answerForm (answerVals cell (numberOf answer) (amountsOf answer))
 
 pub sheet-line : (s : Sheet) → lineEnds (sheetText s) ≡ 1

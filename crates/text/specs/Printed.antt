@@ -31,8 +31,11 @@ answerVals cell number a =
     ∷ pos (a .left .0)
     ∷ []
 
+unfoldable pub lineText : ℕ → ℕ → Amounts → List ℕ
+lineText cell number a = formText answerForm (answerVals cell number a)
+
 unfoldable pub answerText : ℕ → Answer → List ℕ
-answerText cell answer = formText answerForm (answerVals cell (numberOf answer) (amountsOf answer))
+answerText cell answer = lineText cell (numberOf answer) (amountsOf answer)
 
 -- steps and the nine sums
 abbrev pub sheetVals : Sheet → List ℤ

@@ -2,7 +2,7 @@
 ghost use mathlib.Core.Path.{_≡_};
 ghost use mathlib.Core.Bool.{true};
 ghost use Rattle.cell.specs.Refusals.{amountsOf};
-ghost use Rattle.text.specs.Printed.{answerVals, answerText, sheetVals, sheetText, amountsPrintable, sheetPrintable, Prints};
+ghost use Rattle.text.specs.Printed.{answerVals, lineText, answerText, sheetVals, sheetText, amountsPrintable, sheetPrintable, Prints};
 use crate::Written;
 use crate::put_line;
 use cell::Amounts;
@@ -92,16 +92,22 @@ fn sheet_values(s: Sheet) -> [i64; 10]
     ]
 }
 
+// Writes the line of a cell, a number and ten amounts at the start of buf.
+pub fn line(cell: u32, number: u32, a: Amounts, buf: &mut [u8]) -> Written
+    ensures { λ w. ⌜ Prints (amountsPrintable a) (lineText cell number a) (now (buf .entry)) w (now (buf .exit)) ⌝ }
+{
+    if !amounts_printable(a) {
+        return Written { number: 12, len: 0 };
+    }
+    let v = answer_values(cell, number, a);
+    put_line(&ANSWER, &v, buf)
+}
+
 // Writes the line of an answer for a cell at the start of buf.
 pub fn answer(cell: u32, answer: Answer, buf: &mut [u8]) -> Written
     ensures { λ w. ⌜ Prints (amountsPrintable (amountsOf answer)) (answerText cell answer) (now (buf .entry)) w (now (buf .exit)) ⌝ }
 {
-    let a = cell::amounts_of(answer);
-    if !amounts_printable(a) {
-        return Written { number: 12, len: 0 };
-    }
-    let v = answer_values(cell, cell::number_of(answer), a);
-    put_line(&ANSWER, &v, buf)
+    line(cell, cell::number_of(answer), cell::amounts_of(answer), buf)
 }
 
 // Writes the line of a sheet at the start of buf.

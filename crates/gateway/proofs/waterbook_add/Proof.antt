@@ -50,16 +50,16 @@ same-length-3 : tie.Need-same-length-3
 same-length-3 c = search needs
 
 returns-6 : tie.Need-returns-6
-returns-6 c = let ss : signsFrom 0 9 (c .before .before .before .before .before .before .before .before .before .before .before .before .before .before .args .sheet .now) ≡ true = sym (c .before .before .before .before .before .before .before .before .before .signs .ensures) ∙ not-false _ (c .before .before .before .before .before .before .before .before .if4 .left) in let aa : signsFrom 0 8 (c .before .before .before .before .before .before .before .before .before .before .before .before .before .before .args .amounts .now) ≡ true = sym (c .before .before .before .before .before .before .before .signs2 .ensures) ∙ not-false _ (c .before .before .before .before .before .before .if5 .left) in let q = rw (c .before .before .before .before .sheet-from .ensures, c .before .before .before .amounts-from .ensures) at (c .before .before .add .ensures) in let m = ap (λ (x : Added). x .number) q in record { number-is = rw (eq-eqb (length (c .before .before .before .before .before .before .before .before .before .before .before .before .before .before .args .sheet .now)) 10 (c .before .before .before .before .before .before .before .before .before .before .before .before .before .if1 .left), eq-eqb (length (c .before .before .before .before .before .before .before .before .before .before .before .before .before .before .args .amounts .now)) 10 (c .before .before .before .before .before .before .before .before .before .before .before .before .if2 .left), eq-eqb (c .before .before .before .before .before .before .before .before .before .before .before .before .before .before .args .number) 0 (c .before .before .before .before .before .before .before .before .before .before .before .if3 .left), ss, aa) m; sheet-is = rw (eq-eqb (length (c .before .before .before .before .before .before .before .before .before .before .before .before .before .before .args .sheet .now)) 10 (c .before .before .before .before .before .before .before .before .before .before .before .before .before .if1 .left), eq-eqb (length (c .before .before .before .before .before .before .before .before .before .before .before .before .before .before .args .amounts .now)) 10 (c .before .before .before .before .before .before .before .before .before .before .before .before .if2 .left), eq-eqb (c .before .before .before .before .before .before .before .before .before .before .before .before .before .before .args .number) 0 (c .before .before .before .before .before .before .before .before .before .before .before .if3 .left), ss, aa, ne-eqb _ 0 (λ z. c .if6 .taken (m ∙ z))) }
+returns-6 c = let ss : signsFrom 0 9 (c .before .before .before .before .before .before .before .before .before .before .before .before .before .before .args .sheet .now) ≡ true = sym (c .before .before .before .before .before .before .before .before .before .signs .ensures) ∙ not-false _ (c .before .before .before .before .before .before .before .before .if4 .left) in let aa : signsFrom 0 8 (c .before .before .before .before .before .before .before .before .before .before .before .before .before .before .args .amounts .now) ≡ true = sym (c .before .before .before .before .before .before .before .signs2 .ensures) ∙ not-false _ (c .before .before .before .before .before .before .if5 .left) in let q = rw (c .before .before .before .before .sheet-from .ensures .0, c .before .before .before .amounts-from .ensures .0) at (c .before .before .add .ensures) in let m = ap (λ (x : Added). x .number) q in record { number-is = rw (eq-eqb (length (c .before .before .before .before .before .before .before .before .before .before .before .before .before .before .args .sheet .now)) 10 (c .before .before .before .before .before .before .before .before .before .before .before .before .before .if1 .left), eq-eqb (length (c .before .before .before .before .before .before .before .before .before .before .before .before .before .before .args .amounts .now)) 10 (c .before .before .before .before .before .before .before .before .before .before .before .before .if2 .left), eq-eqb (c .before .before .before .before .before .before .before .before .before .before .before .before .before .before .args .number) 0 (c .before .before .before .before .before .before .before .before .before .before .before .if3 .left), ss, aa) m; sheet-is = rw (eq-eqb (length (c .before .before .before .before .before .before .before .before .before .before .before .before .before .before .args .sheet .now)) 10 (c .before .before .before .before .before .before .before .before .before .before .before .before .before .if1 .left), eq-eqb (length (c .before .before .before .before .before .before .before .before .before .before .before .before .before .before .args .amounts .now)) 10 (c .before .before .before .before .before .before .before .before .before .before .before .before .if2 .left), eq-eqb (c .before .before .before .before .before .before .before .before .before .before .before .before .before .before .args .number) 0 (c .before .before .before .before .before .before .before .before .before .before .before .if3 .left), ss, aa, ne-eqb _ 0 (λ z. c .if6 .taken (m ∙ z))) }
 
 put-sheet-requires : tie.Need-put-sheet-requires
-put-sheet-requires c κs = let q = rw (c .before .before .before .before .before .sheet-from .ensures, c .before .before .before .before .amounts-from .ensures) at (c .before .before .before .add .ensures) in let m = ap (λ (x : Added). x .number) q in (rw q (added-kept _ _ (sym m ∙ c .before .if6 .left)), c .before .before .before .before .before .before .before .before .before .before .before .before .before .before .if1 .left)
+put-sheet-requires c κs = let q = rw (c .before .before .before .before .before .sheet-from .ensures .0, c .before .before .before .before .amounts-from .ensures .0) at (c .before .before .before .add .ensures) in let m = ap (λ (x : Added). x .number) q in (rw q (added-kept _ _ (sym m ∙ c .before .if6 .left)), c .before .before .before .before .before .before .before .before .before .before .before .before .before .before .if1 .left)
 
 same-length-4 : tie.Need-same-length-4
 same-length-4 c = search needs
 
 returns-7 : tie.Need-returns-7
-returns-7 c = let ss : signsFrom 0 9 (c .before .before .before .before .before .before .before .before .before .before .before .before .before .before .before .before .before .args .sheet .now) ≡ true = sym (c .before .before .before .before .before .before .before .before .before .before .before .before .signs .ensures) ∙ not-false _ (c .before .before .before .before .before .before .before .before .before .before .before .if4 .left) in let aa : signsFrom 0 8 (c .before .before .before .before .before .before .before .before .before .before .before .before .before .before .before .before .before .args .amounts .now) ≡ true = sym (c .before .before .before .before .before .before .before .before .before .before .signs2 .ensures) ∙ not-false _ (c .before .before .before .before .before .before .before .before .before .if5 .left) in let q = rw (c .before .before .before .before .before .before .before .sheet-from .ensures, c .before .before .before .before .before .before .amounts-from .ensures) at (c .before .before .before .before .before .add .ensures) in let m = ap (λ (x : Added). x .number) q in let z = sym m ∙ c .before .before .before .if6 .left in record { number-is = rw (eq-eqb (length (c .before .before .before .before .before .before .before .before .before .before .before .before .before .before .before .before .before .args .sheet .now)) 10 (c .before .before .before .before .before .before .before .before .before .before .before .before .before .before .before .before .if1 .left), eq-eqb (length (c .before .before .before .before .before .before .before .before .before .before .before .before .before .before .before .before .before .args .amounts .now)) 10 (c .before .before .before .before .before .before .before .before .before .before .before .before .before .before .before .if2 .left), eq-eqb (c .before .before .before .before .before .before .before .before .before .before .before .before .before .before .before .before .before .args .number) 0 (c .before .before .before .before .before .before .before .before .before .before .before .before .before .before .if3 .left), ss, aa) (sym z); sheet-is = rw (eq-eqb (length (c .before .before .before .before .before .before .before .before .before .before .before .before .before .before .before .before .before .args .sheet .now)) 10 (c .before .before .before .before .before .before .before .before .before .before .before .before .before .before .before .before .if1 .left), eq-eqb (length (c .before .before .before .before .before .before .before .before .before .before .before .before .before .before .before .before .before .args .amounts .now)) 10 (c .before .before .before .before .before .before .before .before .before .before .before .before .before .before .before .if2 .left), eq-eqb (c .before .before .before .before .before .before .before .before .before .before .before .before .before .before .before .before .before .args .number) 0 (c .before .before .before .before .before .before .before .before .before .before .before .before .before .before .if3 .left), ss, aa, eq-eqb _ 0 z) (c .before .put-sheet .ensures ∙ ap (λ (y : Added). sheetNumbers (y .sheet)) q) }
+returns-7 c = let ss : signsFrom 0 9 (c .before .before .before .before .before .before .before .before .before .before .before .before .before .before .before .before .before .args .sheet .now) ≡ true = sym (c .before .before .before .before .before .before .before .before .before .before .before .before .signs .ensures) ∙ not-false _ (c .before .before .before .before .before .before .before .before .before .before .before .if4 .left) in let aa : signsFrom 0 8 (c .before .before .before .before .before .before .before .before .before .before .before .before .before .before .before .before .before .args .amounts .now) ≡ true = sym (c .before .before .before .before .before .before .before .before .before .before .signs2 .ensures) ∙ not-false _ (c .before .before .before .before .before .before .before .before .before .if5 .left) in let q = rw (c .before .before .before .before .before .before .before .sheet-from .ensures .0, c .before .before .before .before .before .before .amounts-from .ensures .0) at (c .before .before .before .before .before .add .ensures) in let m = ap (λ (x : Added). x .number) q in let z = sym m ∙ c .before .before .before .if6 .left in record { number-is = rw (eq-eqb (length (c .before .before .before .before .before .before .before .before .before .before .before .before .before .before .before .before .before .args .sheet .now)) 10 (c .before .before .before .before .before .before .before .before .before .before .before .before .before .before .before .before .if1 .left), eq-eqb (length (c .before .before .before .before .before .before .before .before .before .before .before .before .before .before .before .before .before .args .amounts .now)) 10 (c .before .before .before .before .before .before .before .before .before .before .before .before .before .before .before .if2 .left), eq-eqb (c .before .before .before .before .before .before .before .before .before .before .before .before .before .before .before .before .before .args .number) 0 (c .before .before .before .before .before .before .before .before .before .before .before .before .before .before .if3 .left), ss, aa) (sym z); sheet-is = rw (eq-eqb (length (c .before .before .before .before .before .before .before .before .before .before .before .before .before .before .before .before .before .args .sheet .now)) 10 (c .before .before .before .before .before .before .before .before .before .before .before .before .before .before .before .before .if1 .left), eq-eqb (length (c .before .before .before .before .before .before .before .before .before .before .before .before .before .before .before .before .before .args .amounts .now)) 10 (c .before .before .before .before .before .before .before .before .before .before .before .before .before .before .before .if2 .left), eq-eqb (c .before .before .before .before .before .before .before .before .before .before .before .before .before .before .before .before .before .args .number) 0 (c .before .before .before .before .before .before .before .before .before .before .before .before .before .before .if3 .left), ss, aa, eq-eqb _ 0 z) (c .before .put-sheet .ensures ∙ ap (λ (y : Added). sheetNumbers (y .sheet)) q) }
 
 pub waterbook-add-spec : {M : Type 1} → statement M
 waterbook-add-spec =

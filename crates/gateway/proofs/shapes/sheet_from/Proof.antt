@@ -2,6 +2,7 @@
 use mir.Facts.{toZ-ofZ}
 use mir.Syntax.{w64}
 use Rattle.gateway.specs.Shapes.{sheetFrom}
+use Rattle.gateway.proofs.Printable.{ten-fit}
 use borrow.Author.Needs.{needs}
 use Rattle.gateway.proofs.shapes.sheet_from.Statement.{statement}
 use Rattle.gateway.proofs.shapes.sheet_from.Tie as tie
@@ -38,7 +39,20 @@ number-at-requires c κs = search needs
 
 returns : tie.Need-returns
 unfolding sheetFrom
-returns c = rw (c .before .size-at9 .ensures, c .before .before .size-at8 .ensures, c .before .before .before .size-at7 .ensures, c .before .before .before .before .size-at6 .ensures, c .before .before .before .before .before .size-at5 .ensures, c .before .before .before .before .before .before .size-at4 .ensures, c .before .before .before .before .before .before .before .size-at3 .ensures, c .before .before .before .before .before .before .before .before .size-at2 .ensures, c .before .before .before .before .before .before .before .before .before .size-at .ensures, toZ-ofZ {w = w64} {z = c .number-at .result} (search needs), c .number-at .ensures)
+returns c = (
+  rw (c .before .size-at9 .ensures .0, c .before .before .size-at8 .ensures .0, c .before .before .before .size-at7 .ensures .0, c .before .before .before .before .size-at6 .ensures .0, c .before .before .before .before .before .size-at5 .ensures .0, c .before .before .before .before .before .before .size-at4 .ensures .0, c .before .before .before .before .before .before .before .size-at3 .ensures .0, c .before .before .before .before .before .before .before .before .size-at2 .ensures .0, c .before .before .before .before .before .before .before .before .before .size-at .ensures .0, toZ-ofZ {w = w64} {z = c .number-at .result} (search needs), c .number-at .ensures .0),
+  ten-fit (c .before .before .before .before .before .before .before .before .before .before .args .l .now) (c .before .before .before .before .before .before .before .before .before .before .pre)
+      (c .before .before .before .before .before .before .before .before .before .size-at .ensures .1)
+      (c .before .before .before .before .before .before .before .before .size-at2 .ensures .1)
+      (c .before .before .before .before .before .before .before .size-at3 .ensures .1)
+      (c .before .before .before .before .before .before .size-at4 .ensures .1)
+      (c .before .before .before .before .before .size-at5 .ensures .1)
+      (c .before .before .before .before .size-at6 .ensures .1)
+      (c .before .before .before .size-at7 .ensures .1)
+      (c .before .before .size-at8 .ensures .1)
+      (c .before .size-at9 .ensures .1)
+      (c .number-at .ensures .1),
+)
 
 pub sheet-from-spec : {M : Type 1} → statement M
 sheet-from-spec =

@@ -5,7 +5,7 @@ use mir.Syntax.{w64}
 use lib.ListN.{getD}
 use lib.IntN.{pos}
 use denote.Ref.{now}
-use borrow.Author.Needs.{needs}
+use borrow.Author.Needs.{needs, sfits-of}
 use Rattle.gateway.proofs.shapes.size_at.Statement.{statement}
 use Rattle.gateway.proofs.shapes.size_at.Tie as tie
 
@@ -19,7 +19,7 @@ size-requires : tie.Need-size-requires
 size-requires c κs = search needs
 
 returns : tie.Need-returns
-returns c = let e : toZ w64 (ofZ w64 (getD (now (c .before .before .args .l)) (c .before .before .args .i) (pos 0))) ≡ getD (now (c .before .before .args .l)) (c .before .before .args .i) (pos 0) = search needs in rw e at (c .size .ensures)
+returns c = let e : toZ w64 (ofZ w64 (getD (now (c .before .before .args .l)) (c .before .before .args .i) (pos 0))) ≡ getD (now (c .before .before .args .l)) (c .before .before .args .i) (pos 0) = search needs in (rw e at (c .size .ensures), sfits-of {w = w64} (c .before .size-arg .given))
 
 pub size-at-spec : {M : Type 1} → statement M
 size-at-spec = tie.close (tie.spec mul-size shared-slice-copy-out-size size-requires returns)

@@ -1,60 +1,24 @@
 -- `text::print::answer` meets its contract. Assumes nothing.
-use mathlib.Core.Path.{_≡_, sym, ap, _∙_}
-use mathlib.Core.Bool.{true, false}
-use borrow.Author.Tests.{not-true, not-false}
-use Rattle.text.specs.Printed.{answerText, amountsPrintable}
+use Rattle.text.specs.Printed.{answerText}
 use borrow.Author.Needs.{needs}
 use Rattle.text.proofs.print.answer.Statement.{statement}
 use Rattle.text.proofs.print.answer.Tie as tie
 
-amounts-of-requires : tie.Need-amounts-of-requires
-amounts-of-requires c κs = search needs
-
-amounts-printable-requires : tie.Need-amounts-printable-requires
-amounts-printable-requires c κs = search needs
-
-returns : tie.Need-returns
-returns c =
-    let t : amountsPrintable _ ≡ false = ap amountsPrintable (sym (c .before .before .amounts-of .ensures)) ∙ sym (c .before .amounts-printable .ensures) ∙ not-true _ (c .if1 .taken) in
-    record { written = rw t; buffer = rw t }
-
 number-of-requires : tie.Need-number-of-requires
 number-of-requires c κs = search needs
 
-answer-values-requires : tie.Need-answer-values-requires
-answer-values-requires c κs = sym (c .before .before .amounts-printable .ensures) ∙ not-false _ (c .before .if1 .left)
+amounts-of-requires : tie.Need-amounts-of-requires
+amounts-of-requires c κs = search needs
 
-slice-aggregate-put-line : tie.Need-slice-aggregate-put-line
-slice-aggregate-put-line c = search needs
-
-slice-aggregate-put-line-2 : tie.Need-slice-aggregate-put-line-2
-slice-aggregate-put-line-2 c = search needs
-
-put-line-requires : tie.Need-put-line-requires
-put-line-requires c κs = search needs
+line-requires : tie.Need-line-requires
+line-requires c κs = search needs
 
 same-length : tie.Need-same-length
 same-length c = search needs
 
-returns-2 : tie.Need-returns-2
+returns : tie.Need-returns
 unfolding answerText
-returns-2 c =
-    let t : amountsPrintable _ ≡ true = ap amountsPrintable (sym (c .before .before .before .before .before .before .before .before .before .before .amounts-of .ensures)) ∙ sym (c .before .before .before .before .before .before .before .before .before .amounts-printable .ensures) ∙ not-false _ (c .before .before .before .before .before .before .before .before .if1 .left) in
-    let e = c .before .before .before .before .before .before .answer-values .ensures in
-    let p = rw (e, c .before .before .before .before .before .before .before .number-of .ensures, c .before .before .before .before .before .before .before .before .before .before .amounts-of .ensures) at (c .before .before .put-line .ensures) in
-    record { written = rw t (p .0); buffer = rw t (p .1) }
+returns c = rw (c .before .before .before .before .before .number-of .ensures, c .before .before .before .before .amounts-of .ensures) at (c .before .before .line .ensures)
 
 pub answer-spec : {M : Type 1} → statement M
-answer-spec =
-    tie.close
-    (tie.spec
-    amounts-of-requires
-    amounts-printable-requires
-    returns
-    number-of-requires
-    answer-values-requires
-    slice-aggregate-put-line
-    slice-aggregate-put-line-2
-    put-line-requires
-    same-length
-    returns-2)
+answer-spec = tie.close (tie.spec number-of-requires amounts-of-requires line-requires same-length returns)

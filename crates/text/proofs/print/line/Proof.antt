@@ -1,0 +1,51 @@
+-- `text::print::line` meets its contract. Assumes nothing.
+use mathlib.Core.Path.{_≡_, sym, _∙_}
+use mathlib.Core.Bool.{true, false}
+use borrow.Author.Tests.{not-true, not-false}
+use Rattle.text.specs.Printed.{lineText, amountsPrintable}
+use borrow.Author.Needs.{needs}
+use Rattle.text.proofs.print.line.Statement.{statement}
+use Rattle.text.proofs.print.line.Tie as tie
+
+amounts-printable-requires : tie.Need-amounts-printable-requires
+amounts-printable-requires c κs = search needs
+
+returns : tie.Need-returns
+returns c =
+    let t : amountsPrintable _ ≡ false = sym (c .before .amounts-printable .ensures) ∙ not-true _ (c .if1 .taken) in
+    record { written = rw t; buffer = rw t }
+
+answer-values-requires : tie.Need-answer-values-requires
+answer-values-requires c κs = sym (c .before .amounts-printable .ensures) ∙ not-false _ (c .if1 .left)
+
+slice-aggregate-put-line : tie.Need-slice-aggregate-put-line
+slice-aggregate-put-line c = search needs
+
+slice-aggregate-put-line-2 : tie.Need-slice-aggregate-put-line-2
+slice-aggregate-put-line-2 c = search needs
+
+put-line-requires : tie.Need-put-line-requires
+put-line-requires c κs = search needs
+
+same-length : tie.Need-same-length
+same-length c = search needs
+
+returns-2 : tie.Need-returns-2
+unfolding lineText
+returns-2 c =
+    let t : amountsPrintable _ ≡ true = sym (c .before .before .before .before .before .before .before .before .amounts-printable .ensures) ∙ not-false _ (c .before .before .before .before .before .before .before .if1 .left) in
+    let p = rw (c .before .before .before .before .before .before .answer-values .ensures) at (c .before .before .put-line .ensures) in
+    record { written = rw t (p .0); buffer = rw t (p .1) }
+
+pub line-spec : {M : Type 1} → statement M
+line-spec =
+    tie.close
+    (tie.spec
+    amounts-printable-requires
+    returns
+    answer-values-requires
+    slice-aggregate-put-line
+    slice-aggregate-put-line-2
+    put-line-requires
+    same-length
+    returns-2)
