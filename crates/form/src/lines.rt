@@ -56,6 +56,35 @@ pub fn read_many(
     }
 }
 
+// Looks whether the form f, of 8 values at the most, stands n times from `from` on, and keeps no value.
+pub fn pass_many(s: &[u8], from: usize, f: &[u8], n: usize) -> Ran
+    requires { ⌜ marks (now f) ≤ 8 ⌝ }
+    ensures { λ r. ⌜ r ≡ ranOf (manyAt n (now (f .entry)) (now (s .entry)) from) 0 ⌝ }
+{
+    let mut v = [0i64; 8];
+    let mut at = from;
+    let mut k = 0;
+    while k < n {
+        let t = read_form(s, at, f, &mut v, 0);
+        let ok = t.ok;
+        if ok {
+            at = t.next;
+            k += 1;
+        } else {
+            return Ran {
+                ok: false,
+                next: 0,
+                good: k,
+            };
+        }
+    }
+    Ran {
+        ok: true,
+        next: at,
+        good: k,
+    }
+}
+
 // The length of the text of n rows of the form f, which has w values, with the values of vals from `first` on.
 pub fn many_len(f: &[u8], w: usize, n: usize, vals: &[i64], first: usize) -> usize
     requires { ⌜ (w ≡ marks (now f)) × (first + n * w ≤ length (now vals)) × (length (now f) ≤ 64) × (n ≤ 256) ⌝ }

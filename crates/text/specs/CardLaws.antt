@@ -165,14 +165,13 @@ module _ (s : List ℕ) (b : List ℤ) (h : Counts) (eh : h ≡ countsOf s) (r :
       pub end-short : m .ok ≡ true → length b < h .cells * 5 → r ≡ refusedCard 2 0 → CardEnd s b r b
       end-short o l e = (rw (fine o, lt-ltb _ _ l, e), rw (fine o, lt-ltb _ _ l))
 
-      pub end-good : (ds : List ℕ) (v z w l : List ℤ) → m .ok ≡ true → h .cells * 5 ≤ length b → v ≡ sets (replicate 30 (pos 0)) 0 (depthsAt (h .delays) s (h .next) .vals)
-          → w ≡ sets z 0 (manyAt (h .cells) soilForm s (t .next) .vals) → length z ≡ 1280 → h .cells ≤ 256 → ds ≡ map wordOf v → l ≡ take (h .cells * 5) w ++ drop (h .cells * 5) b
+      pub end-good : (ds : List ℕ) (v l : List ℤ) → m .ok ≡ true → h .cells * 5 ≤ length b → v ≡ sets (replicate 30 (pos 0)) 0 (depthsAt (h .delays) s (h .next) .vals)
+          → ds ≡ map wordOf v → l ≡ sets b 0 (manyAt (h .cells) soilForm s (t .next) .vals)
           → CardEnd s b (record { number = 0; taken = m .next; line = 0; card = record { cells = h .cells; delays = h .delays; depths = ds } }) l
-      end-good ds v z w l o q ev ew lz lc ed el =
+      end-good ds v l o q ev ed el =
           let k : MM s .ok ≡ true = sym (ap (λ (x : Ran). x .ok) m′) ∙ o in
-          let ew′ : w ≡ sets z 0 (MM s .vals) = rw (eh, t′) at ew in
-          let ln : length (MM s .vals) ≡ countsOf s .cells * 5 = many-length (countsOf s .cells) soilForm s (DD s .next) k in
+          let el′ : l ≡ sets b 0 (MM s .vals) = rw (eh, t′) at el in
           let hc : h .cells ≡ countsOf s .cells = ap (λ (x : Counts). x .cells) eh in
-          let wt : take (h .cells * 5) w ≡ MM s .vals =
-          rw (ew′, sets-eq (MM s .vals) z 0 (omega arith)) (take-at (MM s .vals) (drop (0 + length (MM s .vals)) z) (h .cells * 5) (omega arith)) in
-          (rw (fine o, le-ltb _ _ q, ed, ev, eh), rw (fine o, le-ltb _ _ q) (el ∙ ap (λ (x : List ℤ). x ++ drop (h .cells * 5) b) wt))
+          let ln : length (MM s .vals) ≡ h .cells * 5 = many-length (countsOf s .cells) soilForm s (DD s .next) k ∙ omega arith in
+          let lz : 0 + length (MM s .vals) ≡ h .cells * 5 = omega arith in
+          (rw (fine o, le-ltb _ _ q, ed, ev, eh), rw (fine o, le-ltb _ _ q) (el′ ∙ sets-eq (MM s .vals) b 0 (omega arith) ∙ ap (λ (n : ℕ). MM s .vals ++ drop n b) lz))

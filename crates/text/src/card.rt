@@ -15,6 +15,7 @@ use form::line::form_len;
 use form::line::put_form;
 use form::line::read_form;
 use form::lines::many_len;
+use form::lines::pass_many;
 use form::lines::put_many;
 use form::lines::read_many;
 use form::lines::rows_fit;
@@ -135,18 +136,6 @@ fn refuse(number: u32, line: usize) -> CardRead
     }
 }
 
-// Copies the first n values.
-fn copy_values(src: &[i64], n: usize, dst: &mut [i64])
-    requires { ⌜ (n ≤ length (now src)) × (n ≤ length (now dst)) ⌝ }
-    ensures { λ _. ⌜ now (dst .exit) ≡ take n (now (src .entry)) ++ drop n (now (dst .entry)) ⌝ }
-{
-    let mut k = 0;
-    while k < n {
-        dst[k] = src[k];
-        k += 1;
-    }
-}
-
 // Reads a card at the start of s, and fills the first 5 x cells numbers of soil where all of it is well formed.
 pub fn read(s: &[u8], soil: &mut [i64]) -> CardRead
     ensures { λ r. ⌜ (r ≡ cardResult (parse (now (s .entry))) (length (now (soil .entry))))
@@ -160,14 +149,13 @@ pub fn read(s: &[u8], soil: &mut [i64]) -> CardRead
         let ended = t.ok;
         if ended {
             let n = h.cells as usize;
-            let mut w = [0i64; 1280];
-            let m = read_many(s, t.next, &SOIL, 5, n, &mut w, 0);
+            let m = pass_many(s, t.next, &SOIL, n);
             let good = m.ok;
             if good {
                 if soil.len() < n * 5 {
                     return refuse(2, 0);
                 }
-                copy_values(&w, n * 5, soil);
+                read_many(s, t.next, &SOIL, 5, n, soil, 0);
                 let depths = to_depths(&v);
                 return CardRead {
                     number: 0,
