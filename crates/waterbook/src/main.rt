@@ -21,5 +21,7 @@ fn main() {
     let mut out = book_room();
     let n = io::read_full(0, &mut input);
     let m = journal::book(&input[..n], &mut out);
-    io::write_all(1, &out[..m]);
+    if !io::write_all(1, &out[..m]) {
+        io::write_all(2, b"waterbook: the book could not be written\n");
+    }
 }
