@@ -16,6 +16,7 @@ use mir.Val.{SFits}
 use Rattle.form.specs.Signed.{isNeg}
 use Rattle.form.specs.FormLaws.{and-1, and-2}
 use Rattle.text.specs.Printed.{most, amountsPrintable, sheetPrintable}
+use Rattle.text.specs.PrintLaws.{amounts-fit, sheet-fits}
 use Rattle.gateway.specs.Shapes.{AllFit, amountsFrom, sheetFrom, signsFrom, zeros, amountsRecharge, sheetRecharge}
 use Rattle.gateway.specs.Calls.{isAnswer}
 
@@ -97,34 +98,32 @@ module _ (l : List ℤ) (ten : length l ≡ 10) (fit : AllFit l) where
   empty e i h = zero-fits (getD l i (pos 0)) (zeros-at l i e (omega arith))
 
   pub sheet-prints : signsFrom 0 sheetRecharge l ≡ true → sheetPrintable (sheetFrom l) ≡ true
-  unfolding sheetPrintable sheetFrom
+  unfolding sheetFrom
   sheet-prints e =
-      rw (
-        place 9 e 0 (omega arith) refl,
-        place 9 e 1 (omega arith) refl,
-        place 9 e 2 (omega arith) refl,
-        place 9 e 3 (omega arith) refl,
-        place 9 e 4 (omega arith) refl,
-        place 9 e 5 (omega arith) refl,
-        place 9 e 6 (omega arith) refl,
-        place 9 e 7 (omega arith) refl,
-        place 9 e 8 (omega arith) refl,
-      )
+      sheet-fits (sheetFrom l)
+      (place 9 e 0 (omega arith) refl)
+      (place 9 e 1 (omega arith) refl)
+      (place 9 e 2 (omega arith) refl)
+      (place 9 e 3 (omega arith) refl)
+      (place 9 e 4 (omega arith) refl)
+      (place 9 e 5 (omega arith) refl)
+      (place 9 e 6 (omega arith) refl)
+      (place 9 e 7 (omega arith) refl)
+      (place 9 e 8 (omega arith) refl)
 
   amounts-print : ((i : ℕ) → i < 10 → eqb i amountsRecharge ≡ false → leb (natAbs (getD l i (pos 0))) most ≡ true) → amountsPrintable (amountsFrom l) ≡ true
-  unfolding amountsPrintable amountsFrom
+  unfolding amountsFrom
   amounts-print h =
-      rw (
-        h 0 (omega arith) refl,
-        h 1 (omega arith) refl,
-        h 2 (omega arith) refl,
-        h 3 (omega arith) refl,
-        h 4 (omega arith) refl,
-        h 5 (omega arith) refl,
-        h 6 (omega arith) refl,
-        h 7 (omega arith) refl,
-        h 9 (omega arith) refl,
-      )
+      amounts-fit (amountsFrom l)
+      (h 0 (omega arith) refl)
+      (h 1 (omega arith) refl)
+      (h 2 (omega arith) refl)
+      (h 3 (omega arith) refl)
+      (h 4 (omega arith) refl)
+      (h 5 (omega arith) refl)
+      (h 6 (omega arith) refl)
+      (h 7 (omega arith) refl)
+      (h 9 (omega arith) refl)
 
   pub answer-prints : (n : ℕ) → isAnswer n l ≡ true → amountsPrintable (amountsFrom l) ≡ true
   unfolding isAnswer

@@ -16,38 +16,63 @@ use Rattle.text.specs.Printed.{most, amountsPrintable, sheetPrintable, P
 fits : (n m : ℕ) → n ≤ m → m ≤ most → leb n most ≡ true
 fits n m h k = le-leb n most (omega arith)
 
-pub amounts-printable : (a : Amounts) → AmountsWithin a → amountsPrintable a ≡ true
+-- what can be printed, number by number
+pub amounts-fit : (a : Amounts)
+    → leb (a .inflow .0) most ≡ true
+    → leb (a .runoff .0) most ≡ true
+    → leb (a .etvad .0) most ≡ true
+    → leb (a .etstor .0) most ≡ true
+    → leb (a .etsat .0) most ≡ true
+    → leb (a .drain .0) most ≡ true
+    → leb (a .release .0) most ≡ true
+    → leb (a .stored .0) most ≡ true
+    → leb (a .left .0) most ≡ true
+    → amountsPrintable a ≡ true
 unfolding amountsPrintable
+amounts-fit a i r v s t d l w f = rw (i, r, v, s, t, d, l, w, f)
+
+pub sheet-fits : (s : Sheet)
+    → leb (s .steps) most ≡ true
+    → leb (s .inflow .0) most ≡ true
+    → leb (s .runoff .0) most ≡ true
+    → leb (s .etvad .0) most ≡ true
+    → leb (s .etstor .0) most ≡ true
+    → leb (s .etsat .0) most ≡ true
+    → leb (s .drain .0) most ≡ true
+    → leb (s .release .0) most ≡ true
+    → leb (s .stored .0) most ≡ true
+    → sheetPrintable s ≡ true
+unfolding sheetPrintable
+sheet-fits s n i r v x t d l w = rw (n, i, r, v, x, t, d, l, w)
+
+pub amounts-printable : (a : Amounts) → AmountsWithin a → amountsPrintable a ≡ true
 amounts-printable a h =
     let q : 30000000000 ≤ most = omega arith in
-    rw (
-      fits _ _ (h .inflow) q,
-      fits _ _ (h .runoff) q,
-      fits _ _ (h .etvad) q,
-      fits _ _ (h .etstor) q,
-      fits _ _ (h .etsat) q,
-      fits _ _ (h .drain) q,
-      fits _ _ (h .release) q,
-      fits _ _ (h .stored) q,
-      fits _ _ (h .left) q,
-    )
+    amounts-fit a
+    (fits _ _ (h .inflow) q)
+    (fits _ _ (h .runoff) q)
+    (fits _ _ (h .etvad) q)
+    (fits _ _ (h .etstor) q)
+    (fits _ _ (h .etsat) q)
+    (fits _ _ (h .drain) q)
+    (fits _ _ (h .release) q)
+    (fits _ _ (h .stored) q)
+    (fits _ _ (h .left) q)
 
 pub sheet-printable : (s : Sheet) → Kept s → sheetPrintable s ≡ true
-unfolding sheetPrintable
 sheet-printable s h =
     let k = h .sums in
     let q : 30000000000 * s .steps ≤ most = omega (arith, h .steps) in
-    rw (
-      fits _ _ (h .steps) (omega arith),
-      fits _ _ (k .inflow) q,
-      fits _ _ (k .runoff) q,
-      fits _ _ (k .etvad) q,
-      fits _ _ (k .etstor) q,
-      fits _ _ (k .etsat) q,
-      fits _ _ (k .drain) q,
-      fits _ _ (k .release) q,
-      fits _ _ (k .stored) q,
-    )
+    sheet-fits s
+    (fits _ _ (h .steps) (omega arith))
+    (fits _ _ (k .inflow) q)
+    (fits _ _ (k .runoff) q)
+    (fits _ _ (k .etvad) q)
+    (fits _ _ (k .etstor) q)
+    (fits _ _ (k .etsat) q)
+    (fits _ _ (k .drain) q)
+    (fits _ _ (k .release) q)
+    (fits _ _ (k .stored) q)
 
 -- a text that can be printed and has room stands at the buffer's start
 pub prints-text : (p : Bool) (t b : List ℕ) (w : Written) (after : List ℕ) → Prints p t b w after → p ≡ true → length t ≤ length b → (w .len ≡ length t) × (after ≡ t ++ drop (length t) b)
