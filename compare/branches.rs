@@ -3,7 +3,7 @@
 use crate::heads;
 use crate::tally::Tally;
 use second::head::depth;
-use second::numbers::{slot_limit, Amounts, Card, Reading};
+use second::numbers::{Amounts, Card, Reading, slot_limit};
 use second::rules::{curve_number, delay, storm_runoff};
 
 /// The branches of the eleven steps that must be met.

@@ -5,6 +5,7 @@ mod branches;
 mod heads;
 mod journals;
 mod lent;
+mod lines;
 mod numbers;
 mod sheets;
 mod steps;
@@ -26,6 +27,8 @@ const MUST: &[(&str, &[&str])] = &[
     ("heads met by the head's check", heads::CLASSES),
     ("sheets", sheets::REFUSALS),
     ("texts", texts::TEXTS),
+    ("answer lines", lines::ANSWERS),
+    ("sheet lines", lines::SHEETS),
     ("journals", journals::JOURNALS),
 ];
 
@@ -70,6 +73,10 @@ fn round(asked: &Asked, round: u64, tally: &mut Tally) -> Result<(), String> {
         texts::write_reading(dice, tally)?;
         texts::read_card(dice, tally)?;
         texts::write_card(dice, tally)?;
+    }
+    for _ in 0..10 {
+        lines::write_answer(dice, tally)?;
+        lines::write_sheet(dice, tally)?;
     }
     for place in 0..8 {
         journals::by_call(dice, asked.seed, 8 * round + place, tally)?;

@@ -1,12 +1,12 @@
 //! Whole journals: in one call of the library, and through the program on its standard input.
 
-use crate::lent::{equal, same, Lent};
+use crate::lent::{Lent, equal, same};
 use crate::tally::Tally;
 use crate::texts::shown;
-use crate::waterbook::{self, book_room};
+use crate::waterbook::{book_room, raw};
 use second::journal::waterbook as second_book;
 use second::made::dice::Dice;
-use second::made::{journal_of_kind, Kind};
+use second::made::{Kind, journal_of_kind};
 use std::io::{Read, Write};
 use std::process::{Command, Stdio};
 use std::time::Duration;
@@ -93,7 +93,7 @@ pub fn by_call(dice: &mut Dice, seed: u64, place: u64, tally: &mut Tally) -> Res
     tally.meet("journals", name);
     let mut buffer = vec![dice.pick(b"\0.\xff\n="); length];
     let (text, mut lent) = (Lent::new(&journal, b'#'), Lent::new(&buffer, b' '));
-    let answered = waterbook::book(text.held(), lent.slice());
+    let answered = raw::book(text.held(), lent.slice());
     let wanted = if length < room { 0 } else { book.len() };
     buffer[..wanted].copy_from_slice(&book[..wanted]);
     tally.journals += 1;

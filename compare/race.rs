@@ -16,6 +16,7 @@ use std::hint::black_box;
 use std::io::Write;
 use std::process::{Command, ExitCode, Stdio};
 use std::time::Instant;
+use waterbook::raw;
 
 /// Pairs of times taken for each line of a table.
 const PAIRS: usize = 61;
@@ -231,7 +232,7 @@ fn pairs(count: usize, mut proved: impl FnMut() -> f64, mut second: impl FnMut()
 /// The readings of a course in numbers; both sides must answer them alike.
 fn in_numbers(course: &Course) -> Vec<[u32; 10]> {
     let readings: Vec<[u32; 10]> = course.readings.iter().map(reading_numbers).collect();
-    let same = sliced_steps(waterbook::step, course, &readings).1 == second_steps(course).1;
+    let same = sliced_steps(raw::step, course, &readings).1 == second_steps(course).1;
     assert!(same, "the two sides of the race answer alike");
     readings
 }
@@ -239,14 +240,14 @@ fn in_numbers(course: &Course) -> Vec<[u32; 10]> {
 /// The pairs of times of a course's steps, the second's over its own records.
 fn step_pairs(course: &Course) -> Pairs {
     let readings = in_numbers(course);
-    let proved = || sliced_steps(waterbook::step, course, &readings).0;
+    let proved = || sliced_steps(raw::step, course, &readings).0;
     pairs(PAIRS, proved, || second_steps(course).0)
 }
 
 /// The pairs of times of a course's steps, the second's over the library's slices.
 fn sliced_pairs(course: &Course) -> Pairs {
     let readings = in_numbers(course);
-    let proved = || sliced_steps(waterbook::step, course, &readings).0;
+    let proved = || sliced_steps(raw::step, course, &readings).0;
     pairs(PAIRS, proved, || sliced_steps(step_over_slices, course, &readings).0)
 }
 
@@ -269,7 +270,9 @@ fn courses() -> Vec<(String, Course)> {
 
 /// Steps per second.
 fn race_steps() {
-    println!("\nSteps, 4 cells, in millions per second; the last ratio is to the second over the same slices:\n");
+    println!(
+        "\nSteps, 4 cells, in millions per second; the last ratio is to the second over the same slices:\n"
+    );
     println!(
         "| M | table | readings | proved | second | ratio | spread of the ratio | over slices |"
     );
@@ -312,12 +315,12 @@ fn race_journals() {
     for (name, course) in courses() {
         let bytes = journal(&course);
         let mut room = vec![0; waterbook::book_room(bytes.len())];
-        let length = waterbook::book(&bytes, &mut room);
+        let length = raw::book(&bytes, &mut room);
         let same = room[..length] == second::journal::waterbook(&bytes)[..];
         assert!(same, "the two sides of the race answer alike");
         let proved = || {
             seconds(|| {
-                black_box(waterbook::book(&bytes, &mut room));
+                black_box(raw::book(&bytes, &mut room));
             })
         };
         let second = || {
@@ -347,7 +350,9 @@ fn race_cells() {
 
 /// The cost of a refused step, number by number.
 fn race_refusals() {
-    println!("\nCost of a refused step by its number, 4 cells, M = 5, in nanoseconds; the last ratio as above:\n");
+    println!(
+        "\nCost of a refused step by its number, 4 cells, M = 5, in nanoseconds; the last ratio as above:\n"
+    );
     println!("| number | proved | second | ratio | spread of the ratio | over slices |");
     println!("|---|---|---|---|---|---|");
     for number in 1..=10 {

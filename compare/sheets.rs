@@ -1,9 +1,9 @@
 //! Sheets: adding answers to them, by the library and by the second program.
 
-use crate::lent::{equal, same, Lent};
+use crate::lent::{Lent, equal, same};
 use crate::numbers::{amounts_of, sheet_numbers, sheet_of};
 use crate::tally::Tally;
-use crate::waterbook::{self, AMOUNTS, NOT_THE_COUNT, SHEET};
+use crate::waterbook::{AMOUNTS, NOT_THE_COUNT, SHEET, raw};
 use crate::wild;
 use second::made::dice::Dice;
 
@@ -45,7 +45,7 @@ impl Pair {
         let before = self.second.clone();
         let wanted = self.second_add(number, amounts);
         let lent = Lent::new(amounts, -44);
-        let answered = waterbook::add(self.library.slice(), number, lent.held());
+        let answered = raw::add(self.library.slice(), number, lent.held());
         tally.number("add", wanted);
         tally.meet("sheets", reason(wanted, number, &before, amounts));
         equal("number", answered, wanted)
@@ -90,7 +90,7 @@ fn reason(wanted: u32, number: u32, sheet: &[i64], amounts: &[i64]) -> &'static 
 }
 
 /// A sheet that can be added to.
-fn fair_sheet(dice: &mut Dice) -> Vec<i64> {
+pub fn fair_sheet(dice: &mut Dice) -> Vec<i64> {
     let some = dice.within(0, 99_999_999);
     let steps = dice.pick(&[0, 1, 2, 1000, 99_999_998, 99_999_999, some, some]);
     let limit = 30_000_000_000 * steps;
@@ -104,7 +104,7 @@ fn fair_sheet(dice: &mut Dice) -> Vec<i64> {
 }
 
 /// Amounts that can be added.
-fn fair_amounts(dice: &mut Dice) -> Vec<i64> {
+pub fn fair_amounts(dice: &mut Dice) -> Vec<i64> {
     let limit = 30_000_000_000;
     let mut amounts = Vec::new();
     for place in 0..AMOUNTS {

@@ -1,10 +1,10 @@
 //! Steps, clearings and sheets: the proved code through the library against the second program.
 
-use crate::branches::{accepted, refused, Met};
-use crate::lent::{equal, same, Lent};
+use crate::branches::{Met, accepted, refused};
+use crate::lent::{Lent, equal, same};
 use crate::numbers::{amounts_numbers, card_numbers, card_of, reading_numbers, reading_of};
 use crate::tally::Tally;
-use crate::waterbook::{self, AMOUNTS, CARD, NOT_THE_COUNT, READING, ROW, SOIL};
+use crate::waterbook::{AMOUNTS, CARD, NOT_THE_COUNT, READING, ROW, SOIL, raw};
 use crate::{heads, sheets, wild};
 use second::made::dice::Dice;
 use second::made::readings::next_reading;
@@ -45,7 +45,7 @@ impl Slices {
     /// The library's step.
     fn step(&mut self) -> u32 {
         let (card, soil, reading) = (self.card.held(), self.soil.held(), self.reading.held());
-        waterbook::step(card, soil, self.rows.slice(), reading, self.amounts.slice())
+        raw::step(card, soil, self.rows.slice(), reading, self.amounts.slice())
     }
 
     /// All slices against what is given, and the amounts against the second's.
@@ -256,7 +256,7 @@ fn clearing(card: &[u32], mut rows: Vec<u32>, tally: &mut Tally) -> Result<(), S
         CARD => second::step::clear(&card_of(card), &mut rows),
         _ => NOT_THE_COUNT,
     };
-    let answered = waterbook::clear(lent_card.held(), lent_rows.slice());
+    let answered = raw::clear(lent_card.held(), lent_rows.slice());
     tally.number("clear", number);
     equal("number", answered, number)?;
     same("card", &lent_card, card)?;

@@ -83,5 +83,8 @@ const CALLS: &[(&str, &[u32])] = &[
     ("write_card", &[0, 2, 12, 255]),
     ("read_reading", &[0, 12, 255]),
     ("write_reading", &[0, 12, 255]),
+    ("write_answer", &[0, 12, 255]),
+    ("write_sheet", &[0, 12, 255]),
+    ("answer lines", &[0, 1, 2, 3, 4, 5, 6, 7, 8, 9, 10]),
     ("waterbook", &[0, 1, 3, 4, 6, 7, 8, 9, 10, 12]),
 ];

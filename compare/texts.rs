@@ -1,10 +1,10 @@
-//! The four text calls: well-formed and damaged texts, buffers of any size.
+//! The texts of cards and readings: well-formed and damaged texts, buffers of any size.
 
-use crate::lent::{equal, same, Lent};
+use crate::lent::{Lent, equal, same};
 use crate::numbers::{card_numbers, card_of, reading_numbers, reading_of};
 use crate::steps::small_site;
 use crate::tally::Tally;
-use crate::waterbook::{self, CARD, GOT, NOT_THE_COUNT, READING, SOIL};
+use crate::waterbook::{CARD, GOT, NOT_THE_COUNT, READING, SOIL, raw};
 use crate::wild;
 use second::made::damage::harm;
 use second::made::dice::Dice;
@@ -39,12 +39,12 @@ pub const TEXTS: &[&str] = &[
 ];
 
 /// Bytes in which nothing is written yet.
-fn blank(dice: &mut Dice, length: usize) -> Vec<u8> {
+pub fn blank(dice: &mut Dice, length: usize) -> Vec<u8> {
     vec![dice.pick(b"\0.\xff\n="); length]
 }
 
 /// Two numbers, or another count of them, for a call to fill.
-fn got_slice(dice: &mut Dice) -> Vec<usize> {
+pub fn got_slice(dice: &mut Dice) -> Vec<usize> {
     let length = if dice.once_in(50) { wild::other_length(dice, GOT, 1) } else { GOT };
     vec![0xdead_beef; length]
 }
@@ -95,7 +95,7 @@ pub fn read_card(dice: &mut Dice, tally: &mut Tally) -> Result<(), String> {
     let (text, mut lent_soil) = (Lent::new(&bytes, b' '), Lent::new(&soil, 1));
     let (mut lent_card, mut lent_got) = (Lent::new(&card, 7), Lent::new(&got, 9));
     let answered =
-        waterbook::read_card(text.held(), lent_card.slice(), lent_soil.slice(), lent_got.slice());
+        raw::read_card(text.held(), lent_card.slice(), lent_soil.slice(), lent_got.slice());
     let mut number = NOT_THE_COUNT;
     if card.len() == CARD && got.len() == GOT {
         let (taken, read) = text::read_card(&bytes, &mut soil);
@@ -154,7 +154,7 @@ pub fn read_reading(dice: &mut Dice, tally: &mut Tally) -> Result<(), String> {
     let (mut reading, mut got) = (numbers_slice(dice, READING), got_slice(dice));
     let text = Lent::new(&bytes, b' ');
     let (mut lent_reading, mut lent_got) = (Lent::new(&reading, 7), Lent::new(&got, 9));
-    let answered = waterbook::read_reading(text.held(), lent_reading.slice(), lent_got.slice());
+    let answered = raw::read_reading(text.held(), lent_reading.slice(), lent_got.slice());
     let mut number = NOT_THE_COUNT;
     if reading.len() == READING && got.len() == GOT {
         let (taken, read) = text::read_reading(&bytes);
@@ -185,7 +185,7 @@ fn reading_read(number: u32, bytes: &[u8], taken: usize) -> &'static str {
 }
 
 /// A buffer's length, given how long the text is that should stand in it.
-fn buffer_length(dice: &mut Dice, text: usize) -> usize {
+pub fn buffer_length(dice: &mut Dice, text: usize) -> usize {
     let some = dice.place(2 * text + 2);
     dice.pick(&[text, text, text.saturating_sub(1), text + 1, text + 40, 0, some])
 }
@@ -231,12 +231,8 @@ fn written_card(
 ) -> Result<(), String> {
     let (lent_card, lent_soil) = (Lent::new(card, 7), Lent::new(soil, 1));
     let (mut lent_buffer, mut lent_got) = (Lent::new(buffer, b' '), Lent::new(&got, 9));
-    let answered = waterbook::write_card(
-        lent_card.held(),
-        lent_soil.held(),
-        lent_buffer.slice(),
-        lent_got.slice(),
-    );
+    let answered =
+        raw::write_card(lent_card.held(), lent_soil.held(), lent_buffer.slice(), lent_got.slice());
     let mut number = NOT_THE_COUNT;
     if card.len() == CARD && got.len() == GOT {
         let (wanted, length) = text::write_card(&card_of(card), soil, buffer);
@@ -278,8 +274,7 @@ pub fn write_reading(dice: &mut Dice, tally: &mut Tally) -> Result<(), String> {
     let (mut buffer, mut got) = (blank(dice, length), got_slice(dice));
     let lent_reading = Lent::new(&reading, 7);
     let (mut lent_buffer, mut lent_got) = (Lent::new(&buffer, b' '), Lent::new(&got, 9));
-    let answered =
-        waterbook::write_reading(lent_reading.held(), lent_buffer.slice(), lent_got.slice());
+    let answered = raw::write_reading(lent_reading.held(), lent_buffer.slice(), lent_got.slice());
     let mut number = NOT_THE_COUNT;
     if reading.len() == READING && got.len() == GOT {
         let (wanted, written) = text::write_reading(&reading_of(&reading), &mut buffer);

@@ -10,11 +10,7 @@ use std::sync::OnceLock;
 pub fn any(dice: &mut Dice) -> u32 {
     let edge = dice.pick(&[0, 1, 2, 3, 30, 31, 256, 65_536, 1_000_000, 1 << 31, u32::MAX]);
     let some = (dice.roll() as u32) >> dice.below(32);
-    if dice.once_in(3) {
-        edge
-    } else {
-        some
-    }
+    if dice.once_in(3) { edge } else { some }
 }
 
 /// Any signed 64-bit number, small ones and edges as often as large ones.

@@ -1,7 +1,47 @@
-//! The proved water book for Rust: one safe function over slices for each function of the library.
-//! include/waterbook.h says in words what each number means; the order of the numbers is the same here.
-//! rustc finds the library by `-L native=target/staticlib`, after `rt staticlib gateway`; hosts/host.rs is a host.
-//! A Rust slice is never null, and what is lent to be changed is lent to nobody else, which is all that the library asks.
+//! The proved water book of a site of plots ("cells"), for Rust.
+//!
+//! include/waterbook.h says in words what each number means; the order of the numbers is the same here. A record is an
+//! array of its own width, a refused call an `Err` with its [`Refusal`]. [`raw`] has the same calls over slices of any
+//! width, with the number as it comes. The library keeps nothing between calls: rows and sheet are the host's, and
+//! STORING.md says when to store them.
+//!
+//! rust/ is a package of this file: a firm's own package names it by path. Plain rustc takes this file as a module and
+//! finds the library by `-L native=target/staticlib`, after `rt staticlib gateway`; hosts/host.rs is such a host.
+//!
+//! ```
+//! use waterbook::{ANSWER_TEXT, CELLS, ROW, Refusal, SHEET, SOIL};
+//!
+//! let card_text = b"cells=1 delays=1 depth=1000000\n\
+//!                   top=10000000 etdepth=1500000 vadpor=200 leak=100000 cn=80\n";
+//! let mut soil = vec![0; SOIL * CELLS];
+//! let (card, _) = waterbook::read_card(card_text, &mut soil)?;
+//! soil.truncate(SOIL * card[0] as usize);
+//! let mut rows = vec![0; ROW * card[0] as usize];
+//! waterbook::clear(&card, &mut rows)?;
+//!
+//! // Cell 0, life 0, count 0: 50.8 mm of rain over a water table at 8.75 m.
+//! let reading = [0, 0, 0, 50_800, 0, 0, 2_000, 5_000, 2, 8.75f32.to_bits()];
+//! let answer = waterbook::step(&card, &soil, &mut rows, &reading);
+//! let mut line = [0; ANSWER_TEXT];
+//! let length = waterbook::write_answer(reading[0], &answer, &mut line)?;
+//! assert!(line[..length].starts_with(b"cell=0 code=0 inflow=50800 runoff=14287 "));
+//! let mut sheet = [0; SHEET];
+//! waterbook::add(&mut sheet, &answer)?;
+//!
+//! // The same reading again is old: it changes nothing.
+//! let again = waterbook::step(&card, &soil, &mut rows, &reading);
+//! assert_eq!(again, Err(Refusal::Old));
+//! # Ok::<(), Refusal>(())
+//! ```
+
+use core::fmt;
+
+/// The version of the library; include/waterbook.h says what raises which part.
+pub const VERSION_MAJOR: u32 = 1;
+pub const VERSION_MINOR: u32 = 0;
+pub const VERSION_PATCH: u32 = 0;
+/// The version as one number.
+pub const VERSION: u32 = 1_000_000 * VERSION_MAJOR + 1_000 * VERSION_MINOR + VERSION_PATCH;
 
 /// Numbers on a card: cells, delays, 30 delay depths in µm.
 pub const CARD: usize = 32;
@@ -15,22 +55,331 @@ pub const READING: usize = 10;
 pub const AMOUNTS: usize = 10;
 /// Numbers on a sheet: steps, then the sums of all amounts but left.
 pub const SHEET: usize = 10;
-/// Numbers that a reader or writer of text hands back beside its own.
+/// Numbers that a raw reader or writer of text hands back: bytes taken or written, malformed line.
 pub const GOT: usize = 2;
-/// What a call gives where a card, reading, amounts, sheet or got slice has another count of numbers.
-pub const NOT_THE_COUNT: u32 = 255;
+/// The most cells that a card can have.
+pub const CELLS: usize = 256;
 /// The longest journal that the book is kept of, in bytes.
 pub const LONGEST: usize = 65_536;
 
-/// The room that the book of a journal of so many bytes needs.
+/// The longest card text in bytes: a buffer of so many is never too short.
+pub const CARD_TEXT: usize = 24_082;
+/// The longest line of a reading.
+pub const READING_TEXT: usize = 161;
+/// The longest line of an answer.
+pub const ANSWER_TEXT: usize = 292;
+/// The longest line of a sheet.
+pub const SHEET_TEXT: usize = 270;
+
+/// The stack that each raw call needs in bytes, as include/waterbook.h says it; a caller's own frames come on top.
+pub const STACK_STEP: usize = 832;
+pub const STACK_CLEAR: usize = 192;
+pub const STACK_ADD: usize = 208;
+pub const STACK_READ_CARD: usize = 1_088;
+pub const STACK_WRITE_CARD: usize = 1_920;
+pub const STACK_READ_READING: usize = 512;
+pub const STACK_WRITE_READING: usize = 896;
+pub const STACK_WRITE_ANSWER: usize = 1_600;
+pub const STACK_WRITE_SHEET: usize = 1_536;
+pub const STACK_BOOK: usize = 45_056;
+
+/// The number of a raw call that was accepted.
+pub const ACCEPTED: u32 = 0;
+/// The number of a raw call where a card, reading, amounts, sheet or got slice has another count of numbers.
+pub const NOT_THE_COUNT: u32 = 255;
+
+/// A card's numbers.
+pub type Card = [u32; CARD];
+/// A reading's numbers.
+pub type Reading = [u32; READING];
+/// The amounts of an accepted reading, in µm.
+pub type Amounts = [i64; AMOUNTS];
+/// A sheet's numbers; zeros are an empty sheet.
+pub type Sheet = [i64; SHEET];
+/// What a step answers: amounts, or why the reading was refused.
+pub type Answer = Result<Amounts, Refusal>;
+
+/// Why a call was refused, by the library's numbers; later versions may know more.
+#[derive(Clone, Copy, Debug, PartialEq, Eq, Hash)]
+#[non_exhaustive]
+pub enum Refusal {
+    /// The card is out of range, its depths do not rise, or an unused place is not 0.
+    BadCard = 1,
+    /// The soil slice has not 5 numbers per cell (for reading a card: has fewer), or the row slice not 32.
+    BadLengths = 2,
+    /// The cell number is not below cells.
+    BadCell = 3,
+    /// A soil number of that cell is out of range.
+    BadSoil = 4,
+    /// That cell's row is out of range.
+    BadRow = 5,
+    /// Old: the life is lower, or the same with a count lower than next.
+    Old = 6,
+    /// Gap: the life is the same with a count higher than next, or higher with a count that is not 0.
+    Gap = 7,
+    /// Another field of the reading is out of range, life and count included, or etmin is above pet.
+    BadReading = 8,
+    /// The head is no number, or above 10,000 m in size.
+    UnusableHead = 9,
+    /// The head is marked inactive.
+    InactiveHead = 10,
+    /// The answer cannot be added to the sheet.
+    NotAddable = 11,
+    /// The text is malformed, or there is nothing that can be written.
+    Malformed = 12,
+}
+
+impl Refusal {
+    /// All refusals, in the order of their numbers from 1.
+    pub const ALL: &'static [Refusal] = &[
+        Refusal::BadCard,
+        Refusal::BadLengths,
+        Refusal::BadCell,
+        Refusal::BadSoil,
+        Refusal::BadRow,
+        Refusal::Old,
+        Refusal::Gap,
+        Refusal::BadReading,
+        Refusal::UnusableHead,
+        Refusal::InactiveHead,
+        Refusal::NotAddable,
+        Refusal::Malformed,
+    ];
+
+    /// The library's number for it.
+    pub const fn number(self) -> u32 {
+        self as u32
+    }
+
+    /// The refusal of a number, where there is one.
+    pub fn of(number: u32) -> Option<Refusal> {
+        Refusal::ALL.iter().copied().find(|refusal| refusal.number() == number)
+    }
+}
+
+impl fmt::Display for Refusal {
+    fn fmt(&self, out: &mut fmt::Formatter<'_>) -> fmt::Result {
+        out.write_str(match self {
+            Refusal::BadCard => "the card is out of range",
+            Refusal::BadLengths => "the slices are not as long as the card asks",
+            Refusal::BadCell => "the site has no such cell",
+            Refusal::BadSoil => "a soil number of the cell is out of range",
+            Refusal::BadRow => "the cell's stored row is out of range",
+            Refusal::Old => "the reading is old: its count was used up before",
+            Refusal::Gap => "a reading before this one is missing",
+            Refusal::BadReading => "a field of the reading is out of range",
+            Refusal::UnusableHead => "the head cannot be used",
+            Refusal::InactiveHead => "the head is marked inactive",
+            Refusal::NotAddable => "the answer cannot be added to the sheet",
+            Refusal::Malformed => "the text is malformed, or cannot be written",
+        })
+    }
+}
+
+impl core::error::Error for Refusal {}
+
+/// A card text that was not read: why, and at which of its lines, from 1; 0 where the soil slice is too short.
+#[derive(Clone, Copy, Debug, PartialEq, Eq, Hash)]
+pub struct NotRead {
+    pub why: Refusal,
+    pub line: usize,
+}
+
+impl fmt::Display for NotRead {
+    fn fmt(&self, out: &mut fmt::Formatter<'_>) -> fmt::Result {
+        match self.line {
+            0 => self.why.fmt(out),
+            line => write!(out, "line {line} of the card: {}", self.why),
+        }
+    }
+}
+
+impl core::error::Error for NotRead {}
+
+impl From<NotRead> for Refusal {
+    fn from(not_read: NotRead) -> Refusal {
+        not_read.why
+    }
+}
+
+/// A raw call's number as a result.
+fn accepted(number: u32) -> Result<(), Refusal> {
+    match Refusal::of(number) {
+        Some(refusal) => Err(refusal),
+        None if number == ACCEPTED => Ok(()),
+        // The library is proved to give no other number to records of the right width.
+        None => unreachable!("number {number}"),
+    }
+}
+
+/// The length that a raw writer hands back.
+fn length(number: u32, got: [usize; GOT]) -> Result<usize, Refusal> {
+    accepted(number).map(|()| got[0])
+}
+
+/// One reading of the site: refused, the rows stay as they came.
+pub fn step(card: &Card, soil: &[i64], rows: &mut [u32], reading: &Reading) -> Answer {
+    let mut amounts = [0; AMOUNTS];
+    accepted(raw::step(card, soil, rows, reading, &mut amounts)).map(|()| amounts)
+}
+
+/// Set all rows of the site to 0, once, before its first reading.
+pub fn clear(card: &Card, rows: &mut [u32]) -> Result<(), Refusal> {
+    accepted(raw::clear(card, rows))
+}
+
+/// Add an answer to a sheet: a refused one is not addable, and the sheet stays as it came.
+pub fn add(sheet: &mut Sheet, answer: &Answer) -> Result<(), Refusal> {
+    let (number, amounts) = numbers(answer);
+    accepted(raw::add(sheet, number, &amounts))
+}
+
+/// An answer as the library has it: its number, and zeros where it was refused.
+fn numbers(answer: &Answer) -> (u32, Amounts) {
+    match answer {
+        Ok(amounts) => (ACCEPTED, *amounts),
+        Err(refusal) => (refusal.number(), [0; AMOUNTS]),
+    }
+}
+
+/// Read a card text: the card and the bytes taken, with the first 5 numbers per cell of `soil` filled.
+pub fn read_card(text: &[u8], soil: &mut [i64]) -> Result<(Card, usize), NotRead> {
+    let (mut card, mut got) = ([0; CARD], [0; GOT]);
+    match accepted(raw::read_card(text, &mut card, soil, &mut got)) {
+        Ok(()) => Ok((card, got[0])),
+        Err(why) => Err(NotRead { why, line: got[1] }),
+    }
+}
+
+/// Write a card text at the buffer's start: its length.
+pub fn write_card(card: &Card, soil: &[i64], buf: &mut [u8]) -> Result<usize, Refusal> {
+    let mut got = [0; GOT];
+    length(raw::write_card(card, soil, buf, &mut got), got)
+}
+
+/// Read the line of one reading: the reading and the bytes taken.
+pub fn read_reading(text: &[u8]) -> Result<(Reading, usize), Refusal> {
+    let (mut reading, mut got) = ([0; READING], [0; GOT]);
+    accepted(raw::read_reading(text, &mut reading, &mut got)).map(|()| (reading, got[0]))
+}
+
+/// Write the line of a reading at the buffer's start: its length.
+pub fn write_reading(reading: &Reading, buf: &mut [u8]) -> Result<usize, Refusal> {
+    let mut got = [0; GOT];
+    length(raw::write_reading(reading, buf, &mut got), got)
+}
+
+/// Write the line of a reading's answer at the buffer's start: its length.
+pub fn write_answer(cell: u32, answer: &Answer, buf: &mut [u8]) -> Result<usize, Refusal> {
+    let ((number, amounts), mut got) = (numbers(answer), [0; GOT]);
+    length(raw::write_answer(cell, number, &amounts, buf, &mut got), got)
+}
+
+/// Write the line of a sheet at the buffer's start: its length.
+pub fn write_sheet(sheet: &Sheet, buf: &mut [u8]) -> Result<usize, Refusal> {
+    let mut got = [0; GOT];
+    length(raw::write_sheet(sheet, buf, &mut got), got)
+}
+
+/// The room in bytes that the book of a journal of so many bytes needs.
 pub const fn book_room(journal: usize) -> usize {
     5 * journal + 300
+}
+
+/// The whole book of a journal at the buffer's start: its length, or none where the buffer has not the room.
+pub fn book(journal: &[u8], buf: &mut [u8]) -> Option<usize> {
+    // A book is never empty.
+    Some(raw::book(journal, buf)).filter(|length| *length > 0)
+}
+
+/// The calls as the library has them: slices of any width, and the number that comes.
+/// A Rust slice is never null, and what is lent to be changed is lent to nobody else: the library asks no more.
+pub mod raw {
+    use super::library;
+
+    /// One reading of the site: its number, and the ten amounts in `amounts`.
+    #[rustfmt::skip]
+    pub fn step(card: &[u32], soil: &[i64], rows: &mut [u32], reading: &[u32], amounts: &mut [i64]) -> u32 {
+        unsafe {
+            library::waterbook_step(card.as_ptr(), card.len(), soil.as_ptr(), soil.len(), rows.as_mut_ptr(), rows.len(), reading.as_ptr(), reading.len(), amounts.as_mut_ptr(), amounts.len())
+        }
+    }
+
+    /// Set all rows of the site to 0: 0, or 1 or 2 where refused.
+    pub fn clear(card: &[u32], rows: &mut [u32]) -> u32 {
+        unsafe {
+            library::waterbook_clear(card.as_ptr(), card.len(), rows.as_mut_ptr(), rows.len())
+        }
+    }
+
+    /// Add an answer, its number and amounts, to a sheet: 0, or 11 and the sheet as it came.
+    #[rustfmt::skip]
+    pub fn add(sheet: &mut [i64], number: u32, amounts: &[i64]) -> u32 {
+        unsafe {
+            library::waterbook_add(sheet.as_mut_ptr(), sheet.len(), number, amounts.as_ptr(), amounts.len())
+        }
+    }
+
+    /// Read a card text: its number; `got` holds bytes taken and malformed line.
+    #[rustfmt::skip]
+    pub fn read_card(text: &[u8], card: &mut [u32], soil: &mut [i64], got: &mut [usize]) -> u32 {
+        unsafe {
+            library::waterbook_read_card(text.as_ptr(), text.len(), card.as_mut_ptr(), card.len(), soil.as_mut_ptr(), soil.len(), got.as_mut_ptr(), got.len())
+        }
+    }
+
+    /// Write a card text: its number; `got` holds the length written and 0.
+    #[rustfmt::skip]
+    pub fn write_card(card: &[u32], soil: &[i64], buf: &mut [u8], got: &mut [usize]) -> u32 {
+        unsafe {
+            library::waterbook_write_card(card.as_ptr(), card.len(), soil.as_ptr(), soil.len(), buf.as_mut_ptr(), buf.len(), got.as_mut_ptr(), got.len())
+        }
+    }
+
+    /// Read the line of one reading: its number; `got` holds bytes taken and malformed line.
+    #[rustfmt::skip]
+    pub fn read_reading(text: &[u8], reading: &mut [u32], got: &mut [usize]) -> u32 {
+        unsafe {
+            library::waterbook_read_reading(text.as_ptr(), text.len(), reading.as_mut_ptr(), reading.len(), got.as_mut_ptr(), got.len())
+        }
+    }
+
+    /// Write the line of a reading: its number; `got` holds the length written and 0.
+    #[rustfmt::skip]
+    pub fn write_reading(reading: &[u32], buf: &mut [u8], got: &mut [usize]) -> u32 {
+        unsafe {
+            library::waterbook_write_reading(reading.as_ptr(), reading.len(), buf.as_mut_ptr(), buf.len(), got.as_mut_ptr(), got.len())
+        }
+    }
+
+    /// Write the line of an answer: its number; `got` holds the length written and 0.
+    #[rustfmt::skip]
+    pub fn write_answer(cell: u32, number: u32, amounts: &[i64], buf: &mut [u8], got: &mut [usize]) -> u32 {
+        unsafe {
+            library::waterbook_write_answer(cell, number, amounts.as_ptr(), amounts.len(), buf.as_mut_ptr(), buf.len(), got.as_mut_ptr(), got.len())
+        }
+    }
+
+    /// Write the line of a sheet: its number; `got` holds the length written and 0.
+    #[rustfmt::skip]
+    pub fn write_sheet(sheet: &[i64], buf: &mut [u8], got: &mut [usize]) -> u32 {
+        unsafe {
+            library::waterbook_write_sheet(sheet.as_ptr(), sheet.len(), buf.as_mut_ptr(), buf.len(), got.as_mut_ptr(), got.len())
+        }
+    }
+
+    /// The whole book of a journal at the buffer's start: its length, or 0 where the buffer has not the room.
+    pub fn book(journal: &[u8], buf: &mut [u8]) -> usize {
+        unsafe {
+            library::waterbook_book(journal.as_ptr(), journal.len(), buf.as_mut_ptr(), buf.len())
+        }
+    }
 }
 
 mod library {
     #[link(name = "gateway", kind = "static")]
     #[rustfmt::skip]
-    extern "C" {
+    unsafe extern "C" {
         pub fn waterbook_step(card: *const u32, card_len: usize, soil: *const i64, soil_len: usize, rows: *mut u32, rows_len: usize, reading: *const u32, reading_len: usize, amounts: *mut i64, amounts_len: usize) -> u32;
         pub fn waterbook_clear(card: *const u32, card_len: usize, rows: *mut u32, rows_len: usize) -> u32;
         pub fn waterbook_add(sheet: *mut i64, sheet_len: usize, number: u32, amounts: *const i64, amounts_len: usize) -> u32;
@@ -38,67 +387,8 @@ mod library {
         pub fn waterbook_write_card(card: *const u32, card_len: usize, soil: *const i64, soil_len: usize, buf: *mut u8, buf_len: usize, got: *mut usize, got_len: usize) -> u32;
         pub fn waterbook_read_reading(text: *const u8, text_len: usize, reading: *mut u32, reading_len: usize, got: *mut usize, got_len: usize) -> u32;
         pub fn waterbook_write_reading(reading: *const u32, reading_len: usize, buf: *mut u8, buf_len: usize, got: *mut usize, got_len: usize) -> u32;
+        pub fn waterbook_write_answer(cell: u32, number: u32, amounts: *const i64, amounts_len: usize, buf: *mut u8, buf_len: usize, got: *mut usize, got_len: usize) -> u32;
+        pub fn waterbook_write_sheet(sheet: *const i64, sheet_len: usize, buf: *mut u8, buf_len: usize, got: *mut usize, got_len: usize) -> u32;
         pub fn waterbook_book(journal: *const u8, journal_len: usize, buf: *mut u8, buf_len: usize) -> usize;
-    }
-}
-
-/// One reading of the site: its number, and the ten amounts in `amounts`.
-#[rustfmt::skip]
-pub fn step(card: &[u32], soil: &[i64], rows: &mut [u32], reading: &[u32], amounts: &mut [i64]) -> u32 {
-    unsafe {
-        library::waterbook_step(card.as_ptr(), card.len(), soil.as_ptr(), soil.len(), rows.as_mut_ptr(), rows.len(), reading.as_ptr(), reading.len(), amounts.as_mut_ptr(), amounts.len())
-    }
-}
-
-/// Set all rows of the site to 0: 0, or 1 or 2 where refused.
-pub fn clear(card: &[u32], rows: &mut [u32]) -> u32 {
-    unsafe { library::waterbook_clear(card.as_ptr(), card.len(), rows.as_mut_ptr(), rows.len()) }
-}
-
-/// Add an answer, its number and amounts, to a sheet: 0, or 11 and the sheet as it came.
-#[rustfmt::skip]
-pub fn add(sheet: &mut [i64], number: u32, amounts: &[i64]) -> u32 {
-    unsafe {
-        library::waterbook_add(sheet.as_mut_ptr(), sheet.len(), number, amounts.as_ptr(), amounts.len())
-    }
-}
-
-/// Read a card text: its number; `got` holds bytes taken and malformed line.
-#[rustfmt::skip]
-pub fn read_card(text: &[u8], card: &mut [u32], soil: &mut [i64], got: &mut [usize]) -> u32 {
-    unsafe {
-        library::waterbook_read_card(text.as_ptr(), text.len(), card.as_mut_ptr(), card.len(), soil.as_mut_ptr(), soil.len(), got.as_mut_ptr(), got.len())
-    }
-}
-
-/// Write a card text: its number; `got` holds the length written and 0.
-#[rustfmt::skip]
-pub fn write_card(card: &[u32], soil: &[i64], buf: &mut [u8], got: &mut [usize]) -> u32 {
-    unsafe {
-        library::waterbook_write_card(card.as_ptr(), card.len(), soil.as_ptr(), soil.len(), buf.as_mut_ptr(), buf.len(), got.as_mut_ptr(), got.len())
-    }
-}
-
-/// Read the line of one reading: its number; `got` holds bytes taken and malformed line.
-#[rustfmt::skip]
-pub fn read_reading(text: &[u8], reading: &mut [u32], got: &mut [usize]) -> u32 {
-    unsafe {
-        library::waterbook_read_reading(text.as_ptr(), text.len(), reading.as_mut_ptr(), reading.len(), got.as_mut_ptr(), got.len())
-    }
-}
-
-/// Write the line of a reading: its number; `got` holds the length written and 0.
-#[rustfmt::skip]
-pub fn write_reading(reading: &[u32], buf: &mut [u8], got: &mut [usize]) -> u32 {
-    unsafe {
-        library::waterbook_write_reading(reading.as_ptr(), reading.len(), buf.as_mut_ptr(), buf.len(), got.as_mut_ptr(), got.len())
-    }
-}
-
-/// The whole book of a journal at the buffer's start: its length, or 0 where the buffer has not the room.
-#[rustfmt::skip]
-pub fn book(journal: &[u8], buf: &mut [u8]) -> usize {
-    unsafe {
-        library::waterbook_book(journal.as_ptr(), journal.len(), buf.as_mut_ptr(), buf.len())
     }
 }

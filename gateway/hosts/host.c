@@ -21,45 +21,47 @@ static const char book[] =
     "cell=0 code=6 inflow=0 runoff=0 etvad=0 etstor=0 etsat=0 drain=0 release=0 stored=0 recharge=0 left=0\n"
     "steps=2 inflow=51800 runoff=14287 etvad=2000 etstor=0 etsat=1333 drain=0 release=34513 stored=34513 recharge=34180\n";
 
-static const char *const names[WATERBOOK_AMOUNTS] = {
-    "inflow", "runoff", "etvad", "etstor", "etsat", "drain", "release", "stored", "recharge", "left"};
-
 /* ---- the example ---- */
 
-/* Text that grows at its end. */
+/* A book that grows by a line at its end. */
 struct page {
-    char text[4096];
+    uint8_t text[4096];
     size_t length;
 };
 
-/* Numbers under the names of the amounts, a space before each, then LF. */
-static void put_named(struct page *page, const int64_t *numbers, size_t count) {
-    for (size_t i = 0; i < count; i++)
-        page->length += (size_t)snprintf(page->text + page->length, sizeof page->text - page->length,
-                                         " %s=%" PRId64, names[i], numbers[i]);
-    page->length += (size_t)snprintf(page->text + page->length, sizeof page->text - page->length, "\n");
+/* A writer's number and length: the page grows by what was written. */
+static uint32_t grown(struct page *page, uint32_t number, const size_t *got) {
+    page->length += got[0];
+    return number;
 }
 
-/* A word with its number, before the named ones. */
-static void put_word(struct page *page, const char *word, int64_t number) {
-    page->length += (size_t)snprintf(page->text + page->length, sizeof page->text - page->length,
-                                     "%s=%" PRId64, word, number);
+static uint32_t put_answer(struct page *page, uint32_t cell, uint32_t number, const int64_t *amounts) {
+    size_t got[WATERBOOK_GOT];
+    uint32_t written = waterbook_write_answer(cell, number, amounts, WATERBOOK_AMOUNTS, page->text + page->length,
+                                              sizeof page->text - page->length, got, WATERBOOK_GOT);
+    return grown(page, written, got);
 }
 
-/* One reading: its answer on the page and on the sheet; the bytes taken, or 0 where it is malformed. */
+static uint32_t put_sheet(struct page *page, const int64_t *sheet) {
+    size_t got[WATERBOOK_GOT];
+    uint32_t written = waterbook_write_sheet(sheet, WATERBOOK_SHEET, page->text + page->length,
+                                             sizeof page->text - page->length, got, WATERBOOK_GOT);
+    return grown(page, written, got);
+}
+
+/* One reading: its answer on the page and on the sheet; the bytes taken, or 0 where it is malformed or has no room. */
 static size_t keep_reading(const uint32_t *card, const int64_t *soil, size_t soil_len, uint32_t *rows,
                            size_t rows_len, const uint8_t *text, size_t text_len, int64_t *sheet,
                            struct page *page) {
     uint32_t reading[WATERBOOK_READING];
     int64_t amounts[WATERBOOK_AMOUNTS];
     size_t got[WATERBOOK_GOT];
-    if (waterbook_read_reading(text, text_len, reading, WATERBOOK_READING, got, WATERBOOK_GOT) != 0)
+    if (waterbook_read_reading(text, text_len, reading, WATERBOOK_READING, got, WATERBOOK_GOT) != WATERBOOK_ACCEPTED)
         return 0;
     uint32_t number = waterbook_step(card, WATERBOOK_CARD, soil, soil_len, rows, rows_len, reading,
                                      WATERBOOK_READING, amounts, WATERBOOK_AMOUNTS);
-    put_word(page, "cell", reading[0]);
-    put_word(page, " code", number);
-    put_named(page, amounts, WATERBOOK_AMOUNTS);
+    if (put_answer(page, reading[0], number, amounts) != WATERBOOK_ACCEPTED)
+        return 0;
     /* A refused answer gets 11 and leaves the sheet as it was. */
     (void)waterbook_add(sheet, WATERBOOK_SHEET, number, amounts, WATERBOOK_AMOUNTS);
     return got[0];
@@ -74,20 +76,21 @@ static uint32_t keep_book(const uint8_t *text, size_t text_len, struct page *pag
     size_t got[WATERBOOK_GOT];
     uint32_t number = waterbook_read_card(text, text_len, card, WATERBOOK_CARD, soil,
                                           WATERBOOK_SOIL * WATERBOOK_CELLS, got, WATERBOOK_GOT);
-    if (number != 0)
+    if (number != WATERBOOK_ACCEPTED)
         return number;
     size_t at = got[0], soil_len = WATERBOOK_SOIL * card[0], rows_len = WATERBOOK_ROW * card[0];
     number = waterbook_clear(card, WATERBOOK_CARD, rows, rows_len);
-    while (number == 0 && at < text_len) {
+    while (number == WATERBOOK_ACCEPTED && at < text_len) {
         size_t taken = keep_reading(card, soil, soil_len, rows, rows_len, text + at, text_len - at, sheet, page);
-        number = taken == 0 ? 12 : 0;
+        number = taken == 0 ? WATERBOOK_MALFORMED : WATERBOOK_ACCEPTED;
         at += taken;
     }
-    if (number == 0) {
-        put_word(page, "steps", sheet[0]);
-        put_named(page, sheet + 1, WATERBOOK_SHEET - 1);
-    }
-    return number;
+    return number == WATERBOOK_ACCEPTED ? put_sheet(page, sheet) : number;
+}
+
+/* Is this text the example's book? */
+static int is_book(const uint8_t *text, size_t length) {
+    return length == sizeof book - 1 && memcmp(text, book, length) == 0;
 }
 
 /* The book in one call must be the same text. */
@@ -97,7 +100,7 @@ static int same_in_one_call(void) {
     if (buf == NULL)
         return 0;
     size_t length = waterbook_book((const uint8_t *)journal, sizeof journal - 1, buf, room);
-    int same = length == sizeof book - 1 && memcmp(buf, book, length) == 0;
+    int same = is_book(buf, length);
     free(buf);
     return same;
 }
@@ -105,12 +108,12 @@ static int same_in_one_call(void) {
 static int example(void) {
     static struct page page;
     uint32_t number = keep_book((const uint8_t *)journal, sizeof journal - 1, &page);
-    if (number != 0) {
+    if (number != WATERBOOK_ACCEPTED) {
         fprintf(stderr, "host.c: the example was refused with %" PRIu32 "\n", number);
         return 1;
     }
-    fputs(page.text, stdout);
-    if (strcmp(page.text, book) != 0 || !same_in_one_call()) {
+    fwrite(page.text, 1, page.length, stdout);
+    if (!is_book(page.text, page.length) || !same_in_one_call()) {
         fprintf(stderr, "host.c: the book should have been\n%s", book);
         return 1;
     }
@@ -131,6 +134,17 @@ static uint64_t roll(void) {
 }
 
 static uint64_t below(uint64_t limit) { return roll() % limit; }
+
+/* Any number, small ones as often as large ones. Rolls stand one to a statement, so that their order is fixed. */
+static uint64_t any_number(void) {
+    uint64_t number = roll();
+    return number >> below(64);
+}
+
+static int64_t any_signed(void) {
+    int64_t number = (int64_t)roll();
+    return number >> below(64);
+}
 
 /* A number at most so large, mostly; now and then any. */
 static uint32_t number_to(uint32_t most) {
@@ -171,8 +185,10 @@ static uint32_t *any_card(size_t count) {
             depth += 1 + (uint32_t)below(300000);
         card[i] = i == 0 ? 1 + (uint32_t)below(6) : i == 1 ? delays : i < 2 + (size_t)delays ? depth : 0;
     }
-    if (count > 0 && below(12) == 0)
-        card[below(count)] = (uint32_t)(roll() >> below(64));
+    if (count > 0 && below(12) == 0) {
+        size_t place = below(count);
+        card[place] = (uint32_t)any_number();
+    }
     return card;
 }
 
@@ -187,8 +203,10 @@ static int64_t *any_soil(size_t count) {
     int64_t *soil = lend(count * sizeof *soil);
     for (size_t i = 0; i < count; i++)
         soil[i] = least[i % 5] + (int64_t)below((uint64_t)most[i % 5]);
-    if (count > 0 && below(12) == 0)
-        soil[below(count)] = (int64_t)roll() >> below(64);
+    if (count > 0 && below(12) == 0) {
+        size_t place = below(count);
+        soil[place] = any_signed();
+    }
     return soil;
 }
 
@@ -196,10 +214,14 @@ static uint32_t *any_rows(size_t count) {
     uint32_t *rows = lend(count * sizeof *rows);
     for (size_t i = 0; i < count; i++)
         rows[i] = i % 32 < 2 ? (uint32_t)below(3) : 0;
-    if (count > 2 && below(2) == 0)
-        rows[2 + below(count - 2)] = (uint32_t)below(2000001);
-    if (count > 0 && below(12) == 0)
-        rows[below(count)] = (uint32_t)(roll() >> below(64));
+    if (count > 2 && below(2) == 0) {
+        size_t place = 2 + below(count - 2);
+        rows[place] = (uint32_t)below(2000001);
+    }
+    if (count > 0 && below(12) == 0) {
+        size_t place = below(count);
+        rows[place] = (uint32_t)any_number();
+    }
     return rows;
 }
 
@@ -257,8 +279,9 @@ static void call_add(void) {
     for (size_t i = 0; i < sheet_len; i++)
         sheet[i] = (int64_t)below(1000);
     for (size_t i = 0; i < amounts_len; i++)
-        amounts[i] = below(60) == 0 ? (int64_t)roll() >> below(64) : (int64_t)below(30000000001u);
-    uint32_t number = waterbook_add(sheet, sheet_len, below(20) == 0 ? (uint32_t)below(13) : 0, amounts, amounts_len);
+        amounts[i] = below(60) == 0 ? any_signed() : (int64_t)below(30000000001u);
+    uint32_t answered = below(20) == 0 ? (uint32_t)below(13) : 0;
+    uint32_t number = waterbook_add(sheet, sheet_len, answered, amounts, amounts_len);
     note(number, sheet, sheet_len * sizeof *sheet);
     free(sheet), free(amounts);
 }
@@ -270,8 +293,11 @@ static uint8_t *any_text(size_t start, size_t *length) {
         *length = below(*length + 1);
     uint8_t *text = lend(*length);
     memcpy(text, journal + start, *length);
-    for (uint64_t changes = below(3) * below(2); *length > 0 && changes > 0; changes--)
-        text[below(*length)] = below(3) == 0 ? (uint8_t)roll() : (uint8_t)"0123456789 =-\n"[below(14)];
+    static const uint64_t changed[] = {0, 0, 0, 0, 1, 2};
+    for (uint64_t changes = changed[below(6)]; *length > 0 && changes > 0; changes--) {
+        size_t place = below(*length);
+        text[place] = below(3) == 0 ? (uint8_t)roll() : (uint8_t)"0123456789 =-\n"[below(14)];
+    }
     return text;
 }
 
@@ -297,6 +323,14 @@ static void call_read(int of_card) {
     free(text), free(numbers), free(soil), free(got);
 }
 
+/* Take what a writer handed back, and its text, into the digest. */
+static void note_written(uint32_t number, const size_t *got, size_t got_len, const uint8_t *buf) {
+    if (number != WATERBOOK_NOT_THE_COUNT)
+        note(number, got, got_len * sizeof *got);
+    if (number == WATERBOOK_ACCEPTED)
+        note(number, buf, got[0]);
+}
+
 static void call_write(int of_card) {
     size_t numbers_len = count_of(of_card ? WATERBOOK_CARD : WATERBOOK_READING), got_len = count_of(WATERBOOK_GOT);
     uint32_t *numbers = of_card ? any_card(numbers_len) : any_reading(numbers_len), number;
@@ -309,11 +343,36 @@ static void call_write(int of_card) {
         number = waterbook_write_card(numbers, numbers_len, soil, soil_len, buf, buf_len, got, got_len);
     else
         number = waterbook_write_reading(numbers, numbers_len, buf, buf_len, got, got_len);
-    if (number != WATERBOOK_NOT_THE_COUNT)
-        note(number, got, got_len * sizeof *got);
-    if (number == 0)
-        note(number, buf, got[0]);
+    note_written(number, got, got_len, buf);
     free(numbers), free(soil), free(buf), free(got);
+}
+
+/* Ten numbers of an answer or a sheet: in order mostly, now and then any. */
+static int64_t *any_amounts(size_t count, int zeros) {
+    int64_t *amounts = lend(count * sizeof *amounts);
+    for (size_t i = 0; i < count; i++)
+        amounts[i] = zeros ? 0 : (int64_t)(any_number() >> 1);
+    if (count > 0 && below(8) == 0) {
+        size_t place = below(count);
+        amounts[place] = any_signed();
+    }
+    return amounts;
+}
+
+/* The line of an answer or a sheet. */
+static void call_line(int of_answer) {
+    size_t numbers_len = count_of(of_answer ? WATERBOOK_AMOUNTS : WATERBOOK_SHEET), got_len = count_of(WATERBOOK_GOT);
+    uint32_t cell = number_to(255), answered = below(2) == 0 ? number_to(12) : 0, number;
+    int64_t *numbers = any_amounts(numbers_len, of_answer && answered != 0 && below(4) != 0);
+    size_t buf_len = below(2) == 0 ? below(300) : 300;
+    uint8_t *buf = lend(buf_len);
+    size_t *got = lend(got_len * sizeof *got);
+    if (of_answer)
+        number = waterbook_write_answer(cell, answered, numbers, numbers_len, buf, buf_len, got, got_len);
+    else
+        number = waterbook_write_sheet(numbers, numbers_len, buf, buf_len, got, got_len);
+    note_written(number, got, got_len, buf);
+    free(numbers), free(buf), free(got);
 }
 
 static void call_book(void) {
@@ -327,7 +386,7 @@ static void call_book(void) {
 }
 
 static void call_any(void) {
-    switch (below(10)) {
+    switch (below(12)) {
     case 0: call_clear(); break;
     case 1: call_add(); break;
     case 2: call_read(1); break;
@@ -335,6 +394,8 @@ static void call_any(void) {
     case 4: call_write(1); break;
     case 5: call_write(0); break;
     case 6: call_book(); break;
+    case 7: call_line(1); break;
+    case 8: call_line(0); break;
     default: call_step(); break;
     }
 }

@@ -1,7 +1,11 @@
 /* The water book of a site of plots ("cells"): the proved static library libgateway.a.
  *
  * `rt staticlib gateway` proves it and writes target/staticlib/libgateway.a; a host in C is built by
- * `cc -Igateway/include host.c target/staticlib/libgateway.a`. hosts/host.c is one.
+ * `cc -Igateway/include host.c target/staticlib/libgateway.a`. hosts/host.c is one. gateway/install puts library and
+ * header below a prefix, for pkg-config's `waterbook`. STORING.md says when a host stores and when it acknowledges.
+ *
+ * The archive is for x86-64 Linux, called as the System V convention of that machine says, with a size_t of 64 bits.
+ * One for another platform is not written.
  *
  * All water is in whole micrometres (µm) over a cell, per step. A height is in µm too, and is never water.
  *
@@ -61,22 +65,7 @@
  *    0  reader: bytes of text taken, 0 where refused;    writer: bytes written, 0 where refused
  *    1  reader: the malformed line of its text, from 1, 0 where none is;    writer: 0
  *
- * The number that a call returns:
- *    0   accepted
- *    1   card out of range, depths not rising, or an unused place not 0
- *    2   soil slice not 5 x cells long (for reading a card: shorter), or row slice not 32 x cells long
- *    3   cell number not below cells
- *    4   a soil number of that cell out of range
- *    5   that cell's row out of range
- *    6   old: life lower, or same life and count lower than next
- *    7   gap: same life and count higher than next, or life higher and count not 0
- *    8   any other field of the reading out of range, or etmin above pet
- *    9   head unusable
- *    10  head marked inactive
- *    11  answer not addable to the sheet
- *    12  text malformed, or nothing that can be written
- *    255 a card, reading, amounts, sheet or got slice has another count of numbers than the one given above;
- *        nothing is changed
+ * The number that a call returns is one of enum waterbook_number below.
  */
 #ifndef WATERBOOK_H
 #define WATERBOOK_H
@@ -88,6 +77,47 @@
 extern "C" {
 #endif
 
+/* The version. MAJOR rises where a call answers the same numbers in another way than before, or where a call, a width
+ * or a constant goes or changes its meaning: look at the host again. MINOR rises where a call or constant comes, or a
+ * room or stack stated below grows: build the host again. PATCH rises where none of this is so, as for speed. */
+#define WATERBOOK_VERSION_MAJOR 1
+#define WATERBOOK_VERSION_MINOR 0
+#define WATERBOOK_VERSION_PATCH 0
+#define WATERBOOK_VERSION \
+    (1000000 * WATERBOOK_VERSION_MAJOR + 1000 * WATERBOOK_VERSION_MINOR + WATERBOOK_VERSION_PATCH)
+
+/* The number that a call returns. */
+enum waterbook_number {
+    WATERBOOK_ACCEPTED = 0,
+    /* The card is out of range, its depths do not rise, or an unused place is not 0. */
+    WATERBOOK_BAD_CARD = 1,
+    /* soil has not 5 x cells numbers (for reading a card: has fewer), or rows has not 32 x cells. */
+    WATERBOOK_BAD_LENGTHS = 2,
+    /* The cell number is not below cells. */
+    WATERBOOK_BAD_CELL = 3,
+    /* A soil number of that cell is out of range. */
+    WATERBOOK_BAD_SOIL = 4,
+    /* That cell's row is out of range. */
+    WATERBOOK_BAD_ROW = 5,
+    /* Old: the life is lower, or the same with a count lower than next. */
+    WATERBOOK_OLD = 6,
+    /* Gap: the life is the same with a count higher than next, or higher with a count that is not 0. */
+    WATERBOOK_GAP = 7,
+    /* Another field of the reading is out of range, life and count included, or etmin is above pet. */
+    WATERBOOK_BAD_READING = 8,
+    /* The head is no number, or above 10,000 m in size. */
+    WATERBOOK_UNUSABLE_HEAD = 9,
+    /* The head is marked inactive. */
+    WATERBOOK_INACTIVE_HEAD = 10,
+    /* The answer cannot be added to the sheet. */
+    WATERBOOK_NOT_ADDABLE = 11,
+    /* The text is malformed, or there is nothing that can be written. */
+    WATERBOOK_MALFORMED = 12,
+    /* A card, reading, amounts, sheet or got slice has another count of numbers than its own; nothing is changed. */
+    WATERBOOK_NOT_THE_COUNT = 255
+};
+
+/* How many numbers a record has; soil and rows have so many per cell. */
 enum {
     WATERBOOK_CARD = 32,
     WATERBOOK_SOIL = 5,
@@ -98,12 +128,37 @@ enum {
     WATERBOOK_GOT = 2,
     /* The most cells, and so the most lines of soil numbers, that a card can have. */
     WATERBOOK_CELLS = 256,
-    /* Room for the longest line of a reading. */
-    WATERBOOK_READING_TEXT = 256,
     /* The longest journal that a book is kept of, in bytes. */
-    WATERBOOK_LONGEST = 65536,
-    /* What a call returns where a slice has not its count of numbers. */
-    WATERBOOK_NOT_THE_COUNT = 255
+    WATERBOOK_LONGEST = 65536
+};
+
+/* The longest text of each kind in bytes, every number at its longest: a buffer of so many is never too short. */
+enum {
+    /* The card text of 256 cells and 30 delays. */
+    WATERBOOK_CARD_TEXT = 24082,
+    /* The line of a reading, of an answer, of a sheet. */
+    WATERBOOK_READING_TEXT = 161,
+    WATERBOOK_ANSWER_TEXT = 292,
+    WATERBOOK_SHEET_TEXT = 270
+};
+
+/* The stack that each call needs in bytes, counted from the entry of a function that does nothing but the call.
+ * tests/stack measures it over the deepest inputs and runs each call on a stack of just this size. What comes on top:
+ *   a thread of the C library keeps data of its own in its stack: give it PTHREAD_STACK_MIN more, as tests/stack does;
+ *   a signal handler without a stack of its own runs on this one;
+ *   a loader that looks up memcpy at its first use works here too, with 3,152 bytes where that was measured: link with
+ *   -z now, or statically. */
+enum {
+    WATERBOOK_STACK_STEP = 832,
+    WATERBOOK_STACK_CLEAR = 192,
+    WATERBOOK_STACK_ADD = 208,
+    WATERBOOK_STACK_READ_CARD = 1088,
+    WATERBOOK_STACK_WRITE_CARD = 1920,
+    WATERBOOK_STACK_READ_READING = 512,
+    WATERBOOK_STACK_WRITE_READING = 896,
+    WATERBOOK_STACK_WRITE_ANSWER = 1600,
+    WATERBOOK_STACK_WRITE_SHEET = 1536,
+    WATERBOOK_STACK_BOOK = 45056
 };
 
 /* The room in bytes that the book of a journal of so many bytes needs. */
@@ -159,6 +214,21 @@ uint32_t waterbook_read_reading(const uint8_t *text, size_t text_len,
 uint32_t waterbook_write_reading(const uint32_t *reading, size_t reading_len,
                                  uint8_t *buf, size_t buf_len,
                                  size_t *got, size_t got_len);
+
+/* Writes the line that waterbook prints for an answer: the reading's cell, the number that the step returned and its
+ * amounts. It goes to the start of buf, and no byte after it changes. Returns 0, 12 or 255. 12, with buf as it came:
+ * buf is too short, or no step gives such an answer, since the number is above 10, or it is not 0 and an amount
+ * is not 0 either, or an amount but recharge is negative. */
+uint32_t waterbook_write_answer(uint32_t cell, uint32_t number,
+                                const int64_t *amounts, size_t amounts_len,
+                                uint8_t *buf, size_t buf_len,
+                                size_t *got, size_t got_len);
+
+/* Writes the line that waterbook prints for a sheet, at the start of buf; no byte after it changes. Returns 0, 12 or
+ * 255. 12, with buf as it came: the steps or a sum but recharge is negative, or buf is too short. */
+uint32_t waterbook_write_sheet(const int64_t *sheet, size_t sheet_len,
+                               uint8_t *buf, size_t buf_len,
+                               size_t *got, size_t got_len);
 
 /* Writes at the start of buf all that the program waterbook prints for this journal (a card text, then
  * readings), and returns its length; no byte after it changes. A buf with less room than

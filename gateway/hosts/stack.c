@@ -1,0 +1,485 @@
+/* The stack of each call of the library, over inputs that reach its deepest paths.
+ * stack-c    measures what each call touches, runs it on a stack of just the stated size with an unmapped page below,
+ *            prints a line per call, and ends with 1 where a stated number of waterbook.h does not hold */
+#define _GNU_SOURCE
+#include <limits.h>
+#include <pthread.h>
+#include <signal.h>
+#include <stdio.h>
+#include <stdlib.h>
+#include <string.h>
+#include <sys/mman.h>
+#include <unistd.h>
+
+#include "waterbook.h"
+
+/* What the calls are lent: the records with their counts, and the counts of the text and the buffer. */
+struct lent {
+    uint32_t card[WATERBOOK_CARD], reading[WATERBOOK_READING], rows[WATERBOOK_ROW * WATERBOOK_CELLS];
+    int64_t soil[WATERBOOK_SOIL * WATERBOOK_CELLS], amounts[WATERBOOK_AMOUNTS], sheet[WATERBOOK_SHEET];
+    size_t got[WATERBOOK_GOT];
+    size_t card_len, reading_len, rows_len, soil_len, amounts_len, sheet_len, got_len, text_len, buf_len;
+    uint32_t cell, answered;
+};
+
+static struct lent given; /* what a case gives */
+static struct lent lent;  /* the same, lent to the call */
+static uint8_t text[WATERBOOK_LONGEST + 1], buf[WATERBOOK_BOOK_ROOM(WATERBOOK_LONGEST + 1)];
+static size_t number;     /* what the call returned */
+
+/* ---- the calls, each from a function that does nothing else ---- */
+
+static void make_step(void) {
+    number = waterbook_step(lent.card, lent.card_len, lent.soil, lent.soil_len, lent.rows, lent.rows_len, lent.reading,
+                            lent.reading_len, lent.amounts, lent.amounts_len);
+}
+
+static void make_clear(void) { number = waterbook_clear(lent.card, lent.card_len, lent.rows, lent.rows_len); }
+
+static void make_add(void) {
+    number = waterbook_add(lent.sheet, lent.sheet_len, lent.answered, lent.amounts, lent.amounts_len);
+}
+
+static void make_read_card(void) {
+    number = waterbook_read_card(text, lent.text_len, lent.card, lent.card_len, lent.soil, lent.soil_len, lent.got,
+                                 lent.got_len);
+}
+
+static void make_write_card(void) {
+    number = waterbook_write_card(lent.card, lent.card_len, lent.soil, lent.soil_len, buf, lent.buf_len, lent.got,
+                                  lent.got_len);
+}
+
+static void make_read_reading(void) {
+    number = waterbook_read_reading(text, lent.text_len, lent.reading, lent.reading_len, lent.got, lent.got_len);
+}
+
+static void make_write_reading(void) {
+    number = waterbook_write_reading(lent.reading, lent.reading_len, buf, lent.buf_len, lent.got, lent.got_len);
+}
+
+static void make_write_answer(void) {
+    number = waterbook_write_answer(lent.cell, lent.answered, lent.amounts, lent.amounts_len, buf, lent.buf_len,
+                                    lent.got, lent.got_len);
+}
+
+static void make_write_sheet(void) {
+    number = waterbook_write_sheet(lent.sheet, lent.sheet_len, buf, lent.buf_len, lent.got, lent.got_len);
+}
+
+static void make_book(void) { number = waterbook_book(text, lent.text_len, buf, lent.buf_len); }
+
+/* ---- a stack of its own ---- */
+
+enum { MOST = 1 << 18, SPARE = 4096 };
+
+static uint8_t *ground; /* the lowest byte of the stack; the page below it is not mapped */
+static const char *name; /* of the call that runs */
+static size_t stated, touched, cases;
+static void (*make)(void);
+
+/* Say which call ran out of its stack. */
+static void overrun(int signal) {
+    (void)signal;
+    static const char words[] = ": needs more stack than is stated\n";
+    if (write(2, name, strlen(name)) < 0 || write(2, words, sizeof words - 1) < 0)
+        _exit(2);
+    _exit(1);
+}
+
+/* Map the stack with its unmapped page, and give the handler a stack of its own. */
+static void lay_ground(void) {
+    static uint8_t apart[1 << 16];
+    size_t page = (size_t)sysconf(_SC_PAGESIZE);
+    uint8_t *all = mmap(NULL, page + MOST, PROT_READ | PROT_WRITE, MAP_PRIVATE | MAP_ANONYMOUS, -1, 0);
+    if (all == MAP_FAILED || mprotect(all, page, PROT_NONE) != 0)
+        exit(2);
+    ground = all + page;
+    stack_t other = {.ss_sp = apart, .ss_size = sizeof apart};
+    struct sigaction action = {.sa_handler = overrun, .sa_flags = SA_ONSTACK};
+    if (sigaltstack(&other, NULL) != 0 || sigaction(SIGSEGV, &action, NULL) != 0)
+        exit(2);
+}
+
+/* Make the call with the stack pointer so many bytes above the ground; the size is a multiple of 16. */
+__attribute__((noinline)) static void run_on(size_t size) {
+    uint8_t *top = ground + size;
+    lent = given;
+    __asm__ volatile("movq %%rsp, %%rbx\n\tmovq %0, %%rsp\n\tcall *%1\n\tmovq %%rbx, %%rsp"
+                     :
+                     : "r"(top), "r"(make)
+                     : "rax", "rbx", "rcx", "rdx", "rsi", "rdi", "r8", "r9", "r10", "r11", "memory", "cc",
+                       "xmm0", "xmm1", "xmm2", "xmm3", "xmm4", "xmm5", "xmm6", "xmm7", "xmm8", "xmm9", "xmm10",
+                       "xmm11", "xmm12", "xmm13", "xmm14", "xmm15");
+}
+
+/* The bytes of a painted stack that the call touches. */
+static size_t touched_of(size_t size, int paint) {
+    size_t at = 0;
+    memset(ground, paint, size);
+    run_on(size);
+    while (at < size && ground[at] == paint)
+        at++;
+    return size - at;
+}
+
+/* One case: touched under two paints, the number as it should be, then the run on just the stated size. */
+static void try(size_t wanted) {
+    size_t room = stated + SPARE, one = touched_of(room, 0xa5), other = touched_of(room, 0x5a);
+    size_t more = one > other ? one : other;
+    cases++;
+    if (more > touched)
+        touched = more;
+    if (number != wanted) {
+        printf("stack: %s gives %zu in case %zu, and not %zu\n", name, number, cases, wanted);
+        exit(1);
+    }
+    if (more <= stated)
+        run_on(stated);
+}
+
+/* ---- what a case gives ---- */
+
+/* The most water that slot k may hold under so many delays. */
+static uint32_t slot_limit(uint32_t k, uint32_t delays) { return k > delays ? 0 : 2000000 * (delays - k + 1); }
+
+/* A card of 256 cells with so many delays, and full rows in life 3 with count 7 due. */
+static void give_delays(uint32_t delays) {
+    given.card[0] = WATERBOOK_CELLS;
+    given.card[1] = delays;
+    for (uint32_t k = 1; k <= 30; k++)
+        given.card[1 + k] = k <= delays ? 250000 * k : 0;
+    for (size_t cell = 0; cell < WATERBOOK_CELLS; cell++) {
+        uint32_t *row = given.rows + WATERBOOK_ROW * cell;
+        row[0] = 3;
+        row[1] = 7;
+        for (uint32_t k = 1; k <= 30; k++)
+            row[1 + k] = slot_limit(k, delays);
+    }
+}
+
+/* All in order: 30 delays, soil numbers, the reading that is due for the last cell, an answer and a sheet. */
+static void give_all(void) {
+    static const int64_t plot[WATERBOOK_SOIL] = {10000000, 1500000, 200, 100000, 80};
+    static const uint32_t fair[WATERBOOK_READING] = {255, 3, 7, 50800, 20000, 1000, 2000, 5000, 2, 0x410c0000};
+    memset(&given, 0, sizeof given);
+    give_delays(30);
+    for (size_t i = 0; i < WATERBOOK_SOIL * WATERBOOK_CELLS; i++)
+        given.soil[i] = plot[i % WATERBOOK_SOIL];
+    memcpy(given.reading, fair, sizeof fair);
+    given.card_len = WATERBOOK_CARD;
+    given.reading_len = WATERBOOK_READING;
+    given.rows_len = WATERBOOK_ROW * WATERBOOK_CELLS;
+    given.soil_len = WATERBOOK_SOIL * WATERBOOK_CELLS;
+    given.amounts_len = WATERBOOK_AMOUNTS;
+    given.sheet_len = WATERBOOK_SHEET;
+    given.got_len = WATERBOOK_GOT;
+    given.buf_len = sizeof buf;
+}
+
+/* All in order, every number as long as its text can be. */
+static void give_longest(void) {
+    give_all();
+    memset(given.card + 2, 0xff, 30 * sizeof *given.card);
+    memset(given.reading, 0xff, sizeof given.reading);
+    given.cell = UINT32_MAX;
+    for (size_t i = 0; i < WATERBOOK_SOIL * WATERBOOK_CELLS; i++)
+        given.soil[i] = i % WATERBOOK_SOIL == 0 ? INT64_MIN : UINT32_MAX;
+    for (size_t i = 0; i < WATERBOOK_AMOUNTS; i++)
+        given.amounts[i] = i == 8 ? INT64_MIN : INT64_MAX;
+    for (size_t i = 0; i < WATERBOOK_SHEET; i++)
+        given.sheet[i] = i == 9 ? INT64_MIN : INT64_MAX;
+}
+
+/* Give a record one other number, try, and put the number back. */
+static void try_with(uint32_t *place, uint32_t other, size_t wanted) {
+    uint32_t kept = *place;
+    *place = other;
+    try(wanted);
+    *place = kept;
+}
+
+static void try_with_signed(int64_t *place, int64_t other, size_t wanted) {
+    int64_t kept = *place;
+    *place = other;
+    try(wanted);
+    *place = kept;
+}
+
+/* Give a slice one number fewer, try, and put it back. */
+static void try_shorter(size_t *count, size_t wanted) {
+    *count -= 1;
+    try(wanted);
+    *count += 1;
+}
+
+/* ---- the cases of each call ---- */
+
+/* Readings that are accepted: so many delays, tables of any height, all moistures. */
+static void accepted_steps(void) {
+    static const uint32_t heads[] = {0x410c0000, 0x41200000, 0x41280000, 0x411ffbe7, 0x461c4000, 0xc61c4000,
+                                     0x80000001, 0xf149f2ca};
+    static const uint32_t rains[] = {0, 12953, 1000000};
+    for (uint32_t delays = 0; delays <= 30; delays++) {
+        give_delays(delays);
+        for (size_t i = 0; i < 8 * 3 * 3 * 2; i++) {
+            given.reading[9] = heads[i % 8];
+            given.reading[3] = rains[i / 8 % 3];
+            given.reading[8] = (uint32_t)(1 + i / 24 % 3);
+            given.reading[6] = given.reading[7] = i / 72 == 0 ? 0 : 1000000;
+            try(WATERBOOK_ACCEPTED);
+        }
+    }
+}
+
+static void step_cases(void) {
+    static const uint32_t wrong[] = {1000001, 1000001, 1000001, 1000001, 1999, 4};
+    uint32_t *row = given.rows + WATERBOOK_ROW * 255;
+    try(WATERBOOK_ACCEPTED);
+    accepted_steps();
+    give_all();
+    try_with(&given.card[31], 1, WATERBOOK_BAD_CARD);
+    try_with(&given.card[0], 257, WATERBOOK_BAD_CARD);
+    try_shorter(&given.soil_len, WATERBOOK_BAD_LENGTHS);
+    try_shorter(&given.rows_len, WATERBOOK_BAD_LENGTHS);
+    try_with(&given.reading[0], 256, WATERBOOK_BAD_CELL);
+    for (size_t i = 0; i < WATERBOOK_SOIL; i++)
+        try_with_signed(&given.soil[WATERBOOK_SOIL * 255 + i], INT64_MIN, WATERBOOK_BAD_SOIL);
+    for (size_t i = 0; i < WATERBOOK_ROW; i++)
+        try_with(&row[i], UINT32_MAX, WATERBOOK_BAD_ROW);
+    try_with(&row[0], 4, WATERBOOK_OLD);
+    try_with(&given.reading[2], 6, WATERBOOK_OLD);
+    try_with(&given.reading[2], 8, WATERBOOK_GAP);
+    try_with(&given.reading[1], 4, WATERBOOK_GAP);
+    row[1] = given.reading[2] = 1000000;
+    try(WATERBOOK_BAD_READING);
+    row[1] = given.reading[2] = 7;
+    for (size_t i = 0; i < 6; i++)
+        try_with(&given.reading[3 + i], wrong[i], WATERBOOK_BAD_READING);
+    try_with(&given.reading[9], 0x7fc00001, WATERBOOK_UNUSABLE_HEAD);
+    try_with(&given.reading[9], 0x461c4001, WATERBOOK_UNUSABLE_HEAD);
+    try_with(&given.reading[9], 0x7149f2ca, WATERBOOK_INACTIVE_HEAD);
+    try_shorter(&given.card_len, WATERBOOK_NOT_THE_COUNT);
+    try_shorter(&given.reading_len, WATERBOOK_NOT_THE_COUNT);
+    try_shorter(&given.amounts_len, WATERBOOK_NOT_THE_COUNT);
+}
+
+static void clear_cases(void) {
+    try(WATERBOOK_ACCEPTED);
+    try_with(&given.card[2], 0, WATERBOOK_BAD_CARD);
+    try_with(&given.card[31], 1, WATERBOOK_BAD_CARD);
+    try_shorter(&given.rows_len, WATERBOOK_BAD_LENGTHS);
+    try_shorter(&given.card_len, WATERBOOK_NOT_THE_COUNT);
+}
+
+static void add_cases(void) {
+    for (size_t i = 0; i < WATERBOOK_AMOUNTS; i++)
+        given.amounts[i] = 30000000000;
+    try(WATERBOOK_ACCEPTED);
+    given.sheet[0] = 99999999;
+    for (size_t i = 1; i < WATERBOOK_SHEET; i++)
+        given.sheet[i] = 30000000000 * 99999999;
+    try(WATERBOOK_ACCEPTED);
+    try_with(&given.answered, WATERBOOK_OLD, WATERBOOK_NOT_ADDABLE);
+    try_with_signed(&given.sheet[0], 100000000, WATERBOOK_NOT_ADDABLE);
+    try_with_signed(&given.sheet[0], -1, WATERBOOK_NOT_ADDABLE);
+    for (size_t i = 1; i < WATERBOOK_SHEET; i++)
+        try_with_signed(&given.sheet[i], INT64_MIN, WATERBOOK_NOT_ADDABLE);
+    for (size_t i = 0; i < WATERBOOK_AMOUNTS; i++)
+        try_with_signed(&given.amounts[i], INT64_MAX, WATERBOOK_NOT_ADDABLE);
+    try_with_signed(&given.amounts[8], INT64_MIN, WATERBOOK_NOT_ADDABLE);
+    try_shorter(&given.sheet_len, WATERBOOK_NOT_THE_COUNT);
+    try_shorter(&given.amounts_len, WATERBOOK_NOT_THE_COUNT);
+}
+
+/* Put the text of a writer's last case where a reader finds it. */
+static void take_text(void) {
+    given.text_len = lent.got[0];
+    memcpy(text, buf, given.text_len);
+}
+
+/* The text of the given card, with the given soil numbers. */
+static void give_card_text(void) {
+    lent = given;
+    make_write_card();
+    take_text();
+}
+
+static void read_card_cases(void) {
+    give_longest();
+    give_card_text();
+    try(WATERBOOK_ACCEPTED);
+    try_shorter(&given.soil_len, WATERBOOK_BAD_LENGTHS);
+    try_shorter(&given.text_len, WATERBOOK_MALFORMED);
+    text[0] = 'C';
+    try(WATERBOOK_MALFORMED);
+    try_shorter(&given.card_len, WATERBOOK_NOT_THE_COUNT);
+    try_shorter(&given.got_len, WATERBOOK_NOT_THE_COUNT);
+    give_all();
+    give_card_text();
+    try(WATERBOOK_ACCEPTED);
+}
+
+/* A writer over a buffer that just holds the longest text of its kind, and over one that is a byte short. */
+static void try_room(size_t longest) {
+    given.buf_len = longest;
+    try(WATERBOOK_ACCEPTED);
+    if (lent.got[0] != longest) {
+        printf("stack: the longest text of %s has %zu bytes, and not %zu\n", name, lent.got[0], longest);
+        exit(1);
+    }
+    try_shorter(&given.buf_len, WATERBOOK_MALFORMED);
+    try_shorter(&given.got_len, WATERBOOK_NOT_THE_COUNT);
+}
+
+static void write_card_cases(void) {
+    give_longest();
+    try_room(WATERBOOK_CARD_TEXT);
+    try_with(&given.card[0], 257, WATERBOOK_MALFORMED);
+    try_with(&given.card[1], 29, WATERBOOK_MALFORMED);
+    try_shorter(&given.soil_len, WATERBOOK_BAD_LENGTHS);
+    try_with_signed(&given.soil[WATERBOOK_SOIL * 255 + 4], -1, WATERBOOK_MALFORMED);
+    try_shorter(&given.card_len, WATERBOOK_NOT_THE_COUNT);
+}
+
+static void write_reading_cases(void) {
+    give_longest();
+    try_room(WATERBOOK_READING_TEXT);
+    try_with(&given.reading[9], 0x410c0000, WATERBOOK_ACCEPTED);
+    try_shorter(&given.reading_len, WATERBOOK_NOT_THE_COUNT);
+}
+
+static void read_reading_cases(void) {
+    give_longest();
+    lent = given;
+    make_write_reading();
+    take_text();
+    try(WATERBOOK_ACCEPTED);
+    try_shorter(&given.text_len, WATERBOOK_MALFORMED);
+    text[5] = '0';
+    try(WATERBOOK_MALFORMED);
+    try_shorter(&given.reading_len, WATERBOOK_NOT_THE_COUNT);
+    try_shorter(&given.got_len, WATERBOOK_NOT_THE_COUNT);
+}
+
+static void write_answer_cases(void) {
+    give_longest();
+    try_room(WATERBOOK_ANSWER_TEXT);
+    try_with(&given.answered, WATERBOOK_OLD, WATERBOOK_MALFORMED);
+    try_with_signed(&given.amounts[9], -1, WATERBOOK_MALFORMED);
+    try_shorter(&given.amounts_len, WATERBOOK_NOT_THE_COUNT);
+    memset(given.amounts, 0, sizeof given.amounts);
+    for (uint32_t refused = 0; refused <= 12; refused++)
+        try_with(&given.answered, refused, refused <= 10 ? WATERBOOK_ACCEPTED : WATERBOOK_MALFORMED);
+}
+
+static void write_sheet_cases(void) {
+    give_longest();
+    try_room(WATERBOOK_SHEET_TEXT);
+    for (size_t i = 0; i < 9; i++)
+        try_with_signed(&given.sheet[i], -1, WATERBOOK_MALFORMED);
+    try_shorter(&given.sheet_len, WATERBOOK_NOT_THE_COUNT);
+    memset(given.sheet, 0, sizeof given.sheet);
+    try(WATERBOOK_ACCEPTED);
+}
+
+/* Readings after the card's text, one for each cell in turn, as long as there is room; the heads change. */
+static void give_readings(void) {
+    static const uint32_t heads[] = {0x410c0000, 0x41280000, 0xf149f2ca, 0x7149f2ca, 0x7fc00001};
+    for (uint32_t i = 0; given.text_len + WATERBOOK_READING_TEXT <= WATERBOOK_LONGEST; i++) {
+        uint32_t numbers[WATERBOOK_READING] = {i % 260, 0, i / 260, 1000000, 1000000, 1000000, 1000000, 1000000,
+                                               1 + i % 3, heads[i / 7 % 5]};
+        size_t got[WATERBOOK_GOT];
+        if (waterbook_write_reading(numbers, WATERBOOK_READING, text + given.text_len, WATERBOOK_READING_TEXT, got,
+                                    WATERBOOK_GOT) != WATERBOOK_ACCEPTED)
+            exit(2);
+        given.text_len += got[0];
+    }
+}
+
+/* The length of the book of the text as it is. */
+static size_t book_length(void) {
+    lent = given;
+    make_book();
+    return number;
+}
+
+static void book_cases(void) {
+    give_card_text();
+    given.text_len -= 1;
+    try(strlen("code=12 line=257\n"));
+    given.text_len += 1;
+    give_readings();
+    given.buf_len = WATERBOOK_BOOK_ROOM(given.text_len);
+    try(book_length());
+    try_shorter(&given.buf_len, 0);
+    given.text_len -= 1;
+    try(book_length());
+    text[0] = 'C';
+    try(strlen("code=12 line=1\n"));
+    give_all();
+    given.text_len = WATERBOOK_LONGEST + 1;
+    try(strlen("code=12 line=0\n"));
+    give_longest();
+    give_card_text();
+    try(strlen("code=1\n"));
+}
+
+/* ---- all calls, and a thread ---- */
+
+/* Does the stated number hold: enough, and no more than a quarter above what is touched? */
+static int holds(void) {
+    int enough = touched <= stated, near = 4 * stated <= 5 * touched;
+    printf("stack: %-24s %6zu stated %6zu touched, %zu cases%s\n", name, stated, touched, cases,
+           !enough ? ": NOT ENOUGH" : near ? "" : ": STATED TOO LARGE");
+    return enough && near;
+}
+
+static int held(const char *call, size_t bytes, void (*made)(void), void (*all)(void)) {
+    name = call;
+    stated = bytes;
+    make = made;
+    touched = cases = 0;
+    give_all();
+    all();
+    return holds();
+}
+
+static void *in_thread(void *nothing) {
+    make_book();
+    return nothing;
+}
+
+/* A thread of the C library that has the least stack it can have and the book's beside it. */
+static int thread_holds(void) {
+    pthread_t thread;
+    pthread_attr_t attributes;
+    size_t size = ((size_t)PTHREAD_STACK_MIN + WATERBOOK_STACK_BOOK + 4095) / 4096 * 4096;
+    name = "waterbook_book in a thread";
+    give_all();
+    give_card_text();
+    give_readings();
+    size_t wanted = book_length();
+    number = 0;
+    if (size > MOST || pthread_attr_init(&attributes) != 0 || pthread_attr_setstack(&attributes, ground, size) != 0 ||
+        pthread_create(&thread, &attributes, in_thread, NULL) != 0 || pthread_join(thread, NULL) != 0)
+        exit(2);
+    printf("stack: %s of %zu bytes gives %zu\n", name, size, number);
+    return number == wanted;
+}
+
+int main(void) {
+    lay_ground();
+    int all = held("waterbook_step", WATERBOOK_STACK_STEP, make_step, step_cases);
+    all &= held("waterbook_clear", WATERBOOK_STACK_CLEAR, make_clear, clear_cases);
+    all &= held("waterbook_add", WATERBOOK_STACK_ADD, make_add, add_cases);
+    all &= held("waterbook_read_card", WATERBOOK_STACK_READ_CARD, make_read_card, read_card_cases);
+    all &= held("waterbook_write_card", WATERBOOK_STACK_WRITE_CARD, make_write_card, write_card_cases);
+    all &= held("waterbook_read_reading", WATERBOOK_STACK_READ_READING, make_read_reading, read_reading_cases);
+    all &= held("waterbook_write_reading", WATERBOOK_STACK_WRITE_READING, make_write_reading, write_reading_cases);
+    all &= held("waterbook_write_answer", WATERBOOK_STACK_WRITE_ANSWER, make_write_answer, write_answer_cases);
+    all &= held("waterbook_write_sheet", WATERBOOK_STACK_WRITE_SHEET, make_write_sheet, write_sheet_cases);
+    all &= held("waterbook_book", WATERBOOK_STACK_BOOK, make_book, book_cases);
+    all &= thread_holds();
+    return all ? 0 : 1;
+}
