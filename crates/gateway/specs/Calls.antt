@@ -85,7 +85,7 @@ pub record WritesReading (reading buf got : List ℕ) (number : ℕ) (buf' got' 
   pub got-is : got' ≡ cond (wide reading readingWidth && wide got gotWidth) (writtenOf (textOf (readingOf reading)) buf .len ∷ 0 ∷ []) got
 
 -- ---- the line of an answer, and of a sheet
--- a host's number and amounts are an answer of a step: accepted, and no amount negative but recharge; or refused by a check of a step, with ten zeros
+-- by number and signs a host's number and amounts can be an answer of a step: accepted, and no amount negative but recharge; or refused by one of its checks, with ten zeros
 unfoldable pub isAnswer : ℕ → List ℤ → Bool
 isAnswer number amounts = cond (eqb number 0) (signsFrom 0 amountsRecharge amounts) (leb number 10 && zeros amounts)
 

@@ -212,7 +212,7 @@ fn all_zero(l: &[i64]) -> bool
     ok
 }
 
-// A host's number and amounts are an answer of a step.
+// By number and signs, a host's number and amounts can be an answer of a step.
 pub fn is_answer(number: u32, amounts: &[i64]) -> bool
     ensures { λ r. ⌜ r ≡ isAnswer number (now (amounts .entry)) ⌝ }
 {
