@@ -5,8 +5,9 @@
 //! width, with the number as it comes. The library keeps nothing between calls: rows and sheet are the host's, and
 //! STORING.md says when to store them.
 //!
-//! rust/ is a package of this file: a firm's own package names it by path. Plain rustc takes this file as a module and
-//! finds the library by `-L native=target/staticlib`, after `rt staticlib gateway`; hosts/host.rs is such a host.
+//! rust/ is a package of this file: a firm's own package names it by path. Plain `rustc --edition 2024` takes this file
+//! as a module and finds the library by `-L native=target/staticlib`, after `rt staticlib gateway`; hosts/host.rs is such
+//! a host. Edition 2021 works too; 2015, which rustc takes unasked, does not.
 //!
 //! ```
 //! use waterbook::{ANSWER_TEXT, CELLS, ROW, Refusal, SHEET, SOIL};
@@ -119,7 +120,7 @@ pub enum Refusal {
     Gap = 7,
     /// Another field of the reading is out of range, life and count included, or etmin is above pet.
     BadReading = 8,
-    /// The head is no number, or above 10,000 m in size.
+    /// The head is no number, or above 10,000 m in size and is neither mark.
     UnusableHead = 9,
     /// The head is marked inactive.
     InactiveHead = 10,
@@ -217,7 +218,7 @@ fn length(number: u32, got: [usize; GOT]) -> Result<usize, Refusal> {
     accepted(number).map(|()| got[0])
 }
 
-/// One reading of the site: refused, the rows stay as they came.
+/// One reading of the site: refused, the rows stay as they came, and the first refusal that applies is told.
 pub fn step(card: &Card, soil: &[i64], rows: &mut [u32], reading: &Reading) -> Answer {
     let mut amounts = [0; AMOUNTS];
     accepted(raw::step(card, soil, rows, reading, &mut amounts)).map(|()| amounts)

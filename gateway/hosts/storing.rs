@@ -1,19 +1,21 @@
 //! A host that stores as STORING.md says: `storing SEED SITES` keeps so many sites while the link loses and repeats,
-//! the store fails and the power is cut at every point, and holds each book to what the nodes made.
-//! Hosts that store in a wrong order must be found out by the same run.
+//! sheets fill, the store fails before or after it is durable, and the power is cut at every point. It holds each book
+//! to what the nodes made. Hosts that work in a wrong order must be found out by the same run.
 
 #[allow(dead_code)]
 #[path = "../waterbook.rs"]
 mod waterbook;
 
 use second::made::dice::Dice;
+use std::ops::Range;
 use std::process::ExitCode;
-use waterbook::{Amounts, CARD, Card, ROW, Reading, Refusal, SHEET, Sheet};
+use waterbook::{Amounts, Answer, CARD, Card, ROW, Reading, Refusal, SHEET, Sheet};
 
-/// Plots of a site, days that its nodes report, and sendings after which a node gives up.
+/// Plots of a site, days that its nodes report, sendings after which a node gives up, and the steps of a full sheet.
 const PLOTS: usize = 3;
 const DAYS: usize = 30;
 const SENDINGS: usize = 20_000;
+const FULL: i64 = 100_000_000;
 
 /// The order in which a host works.
 #[derive(Clone, Copy, PartialEq)]
@@ -21,29 +23,52 @@ enum Order {
     AsWritten,
     AcknowledgedFirst,
     RowApart,
+    AnswerApart,
+    SheetApart,
     KeptAfterFailure,
+    PutBackAfterFailure,
+    FullSheetForgotten,
 }
 
-/// What is kept of a site: rows, sheet, and the readings with their amounts.
-#[derive(Clone, PartialEq)]
-struct Kept {
+/// The wrong orders by name.
+const WRONG: [(Order, &str); 7] = [
+    (Order::AcknowledgedFirst, "acknowledged first"),
+    (Order::RowApart, "row apart"),
+    (Order::AnswerApart, "answer apart"),
+    (Order::SheetApart, "sheet apart"),
+    (Order::KeptAfterFailure, "memory kept after a failure"),
+    (Order::PutBackAfterFailure, "memory put back after a failure"),
+    (Order::FullSheetForgotten, "11 not handled"),
+];
+
+/// What is kept of a site from step to step.
+#[derive(Clone)]
+struct Site {
     rows: Vec<u32>,
     sheet: Sheet,
-    book: Vec<(Reading, Amounts)>,
 }
 
-impl Kept {
-    /// A site on its first day.
-    fn first() -> Kept {
-        Kept { rows: vec![0; ROW * PLOTS], sheet: [0; SHEET], book: Vec::new() }
-    }
+/// What an accepted reading changes: its answer, the sheet that it found full, and the site after it.
+struct Change {
+    reading: Reading,
+    amounts: Amounts,
+    full: Option<Sheet>,
+    site: Site,
+}
 
-    /// Step a reading and add its answer.
-    fn step(&mut self, reading: &Reading) -> Result<(), Refusal> {
-        let soil = [10_000_000, 1_500_000, 200, 100_000, 80].repeat(PLOTS);
-        let answer = waterbook::step(&card(), &soil, &mut self.rows, reading);
-        self.book.push((*reading, answer?));
-        waterbook::add(&mut self.sheet, &answer)
+impl Site {
+    /// Step a reading and add its answer; a full sheet is put away.
+    fn step(&mut self, reading: &Reading, order: Order) -> Result<Change, Refusal> {
+        let answer = step(&mut self.rows, reading);
+        let (amounts, mut full) = (answer?, None);
+        if let Err(refusal) = waterbook::add(&mut self.sheet, &answer) {
+            if order == Order::FullSheetForgotten {
+                return Err(refusal);
+            }
+            full = Some(std::mem::replace(&mut self.sheet, [0; SHEET]));
+            waterbook::add(&mut self.sheet, &answer)?;
+        }
+        Ok(Change { reading: *reading, amounts, full, site: self.clone() })
     }
 }
 
@@ -54,28 +79,92 @@ fn card() -> Card {
     card
 }
 
+/// Step a reading.
+fn step(rows: &mut [u32], reading: &Reading) -> Answer {
+    let soil = [10_000_000, 1_500_000, 200, 100_000, 80].repeat(PLOTS);
+    waterbook::step(&card(), &soil, rows, reading)
+}
+
+/// Where the row of a reading's plot stands.
+fn row(reading: &Reading) -> Range<usize> {
+    let start = ROW * reading[0] as usize;
+    start..start + ROW
+}
+
+/// The parts of a change.
+#[derive(Clone, Copy)]
+enum Part {
+    Row,
+    Answer,
+    Sheet,
+}
+
+/// What is durable: the site, all answers, and the sheets that were put away.
+struct Disk {
+    site: Site,
+    book: Vec<(Reading, Amounts)>,
+    full: Vec<Sheet>,
+}
+
+impl Disk {
+    /// One part of a change becomes durable; what was appended stays for good.
+    fn put(&mut self, part: Part, change: &Change) {
+        match part {
+            Part::Row => {
+                let row = row(&change.reading);
+                self.site.rows[row.clone()].copy_from_slice(&change.site.rows[row]);
+            }
+            Part::Answer => self.book.push((change.reading, change.amounts)),
+            Part::Sheet => {
+                self.full.extend(change.full);
+                self.site.sheet = change.site.sheet;
+            }
+        }
+    }
+}
+
+/// How often the power was cut, and the store failed with nothing durable and with all of it.
+#[derive(Default)]
+struct Mishaps {
+    cuts: usize,
+    lost: usize,
+    durable: usize,
+}
+
 /// A gateway: what is on its disk, and what is in memory until the next cut.
 struct Gateway {
     order: Order,
-    disk: Kept,
-    memory: Kept,
-    cuts: u64,
+    disk: Disk,
+    memory: Site,
+    mishaps: Mishaps,
 }
 
 impl Gateway {
-    /// The power is cut, now and then: memory is what the disk has.
+    /// A gateway on the first day of a site.
+    fn first(order: Order, sheet: Sheet) -> Gateway {
+        let site = Site { rows: vec![0; ROW * PLOTS], sheet };
+        let disk = Disk { site: site.clone(), book: Vec::new(), full: Vec::new() };
+        Gateway { order, disk, memory: site, mishaps: Mishaps::default() }
+    }
+
+    /// Memory is what the disk has.
+    fn read_back(&mut self) {
+        self.memory = self.disk.site.clone();
+    }
+
+    /// The power is cut, now and then.
     fn cut(&mut self, dice: &mut Dice) -> bool {
         let cut = dice.once_in(20);
         if cut {
-            self.memory = self.disk.clone();
-            self.cuts += 1;
+            self.read_back();
+            self.mishaps.cuts += 1;
         }
         cut
     }
 
     /// The acknowledgement of a plot: its life and next count.
     fn acknowledged(&self, reading: &Reading) -> Option<[u32; 2]> {
-        let row = &self.memory.rows[ROW * reading[0] as usize..];
+        let row = &self.memory.rows[row(reading)];
         Some([row[0], row[1]])
     }
 
@@ -85,32 +174,59 @@ impl Gateway {
         if self.cut(dice) {
             return None;
         }
-        match self.memory.step(reading) {
-            Ok(()) => {}
+        let change = match self.memory.step(reading, self.order) {
+            Ok(change) => change,
             Err(Refusal::Old) => return self.acknowledged(reading),
             Err(_) => return None,
-        }
+        };
         let early = self.acknowledged(reading);
-        let stored = !self.cut(dice) && self.store(before, dice) && !self.cut(dice);
+        let stored = !self.cut(dice) && self.store(&change, before, dice) && !self.cut(dice);
         if self.order == Order::AcknowledgedFirst { early } else { early.filter(|_| stored) }
     }
 
-    /// Make memory durable in one piece; false where the store fails or the power is cut.
-    fn store(&mut self, before: Kept, dice: &mut Dice) -> bool {
-        if dice.once_in(20) {
-            if self.order != Order::KeptAfterFailure {
-                self.memory = before;
-            }
+    /// Store a change; false where the store fails, durable or not, or the power is cut.
+    fn store(&mut self, change: &Change, before: Site, dice: &mut Dice) -> bool {
+        let (fails, lost) = (dice.once_in(10), dice.once_in(2));
+        if fails && lost {
+            self.mishaps.lost += 1;
+            self.failed(before);
             return false;
         }
-        if self.order == Order::RowApart {
-            self.disk.rows.clone_from(&self.memory.rows);
+        if !self.write(change, dice) {
+            return false;
+        }
+        if fails {
+            self.mishaps.durable += 1;
+            self.failed(before);
+        }
+        !fails
+    }
+
+    /// All parts of a change become durable, together where the order is right; false where the power is cut between.
+    fn write(&mut self, change: &Change, dice: &mut Dice) -> bool {
+        let (apart, together) = match self.order {
+            Order::RowApart => (Some(Part::Row), [Part::Answer, Part::Sheet].as_slice()),
+            Order::AnswerApart => (Some(Part::Answer), [Part::Row, Part::Sheet].as_slice()),
+            Order::SheetApart => (Some(Part::Sheet), [Part::Row, Part::Answer].as_slice()),
+            _ => (None, [Part::Row, Part::Answer, Part::Sheet].as_slice()),
+        };
+        if let Some(part) = apart {
+            self.disk.put(part, change);
             if self.cut(dice) {
                 return false;
             }
         }
-        self.disk = self.memory.clone();
+        together.iter().for_each(|part| self.disk.put(*part, change));
         true
+    }
+
+    /// The store reports a failure, and only the disk knows what is durable.
+    fn failed(&mut self, before: Site) {
+        match self.order {
+            Order::KeptAfterFailure => {}
+            Order::PutBackAfterFailure => self.memory = before,
+            _ => self.read_back(),
+        }
     }
 }
 
@@ -162,9 +278,15 @@ fn send(gateway: &mut Gateway, nodes: &mut [Node], dice: &mut Dice) {
     }
 }
 
+/// A site's first sheet: empty, or one of an earlier year that soon is full.
+fn first_sheet(dice: &mut Dice) -> Sheet {
+    if dice.once_in(2) { [0; SHEET] } else { [FULL - dice.within(0, 60); SHEET] }
+}
+
 /// Keep a site to its end: its gateway, and whether the disk has each reading just once.
 fn keep(order: Order, dice: &mut Dice) -> (Gateway, bool) {
-    let mut gateway = Gateway { order, disk: Kept::first(), memory: Kept::first(), cuts: 0 };
+    let first = first_sheet(dice);
+    let mut gateway = Gateway::first(order, first);
     let mut nodes: Vec<Node> = (0..PLOTS).map(|_| Node::default()).collect();
     for _ in 0..DAYS {
         nodes.iter_mut().enumerate().for_each(|(plot, node)| node.make(plot, dice));
@@ -176,19 +298,33 @@ fn keep(order: Order, dice: &mut Dice) -> (Gateway, bool) {
         }
         send(&mut gateway, &mut nodes, dice);
     }
-    let sound = whole(&gateway.disk, &nodes);
+    let disk = &gateway.disk;
+    let sound = whole(disk, &nodes) && summed(first, disk);
     (gateway, sound)
 }
 
-/// Has the disk each reading once, in its order, and are its rows and sums those of the readings?
-fn whole(disk: &Kept, nodes: &[Node]) -> bool {
-    let mut again = Kept::first();
-    let stepped = disk.book.iter().all(|(reading, _)| again.step(reading).is_ok());
+/// Has the disk each reading once, in its order, and are its rows and amounts those of the readings?
+fn whole(disk: &Disk, nodes: &[Node]) -> bool {
+    let mut rows = vec![0; ROW * PLOTS];
+    let stepped =
+        disk.book.iter().all(|(reading, amounts)| step(&mut rows, reading) == Ok(*amounts));
     let made = nodes.iter().enumerate().all(|(plot, node)| {
         let of_plot = disk.book.iter().filter(|(reading, _)| reading[0] as usize == plot);
         of_plot.map(|(reading, _)| reading).eq(&node.made)
     });
-    stepped && made && again == *disk
+    stepped && made && rows == disk.site.rows
+}
+
+/// Are all sheets together, those put away and the present one, the first one and the answers, and was each full?
+fn summed(mut sums: Sheet, disk: &Disk) -> bool {
+    for (_, amounts) in &disk.book {
+        sums[0] += 1;
+        sums[1..].iter_mut().zip(amounts).for_each(|(sum, amount)| *sum += amount);
+    }
+    for sheet in disk.full.iter().chain([&disk.site.sheet]) {
+        sums.iter_mut().zip(sheet).for_each(|(sum, number)| *sum -= number);
+    }
+    sums == [0; SHEET] && disk.full.iter().all(|sheet| sheet[0] == FULL)
 }
 
 fn main() -> ExitCode {
@@ -197,26 +333,28 @@ fn main() -> ExitCode {
         eprintln!("usage: storing SEED SITES");
         return ExitCode::from(2);
     };
-    let run = |order| {
+    let run = |order| -> Vec<(Gateway, bool)> {
         let dice = &mut Dice::new(*seed);
-        let kept: Vec<(Gateway, bool)> = (0..*sites).map(|_| keep(order, dice)).collect();
-        let cuts: u64 = kept.iter().map(|(gateway, _)| gateway.cuts).sum();
-        (kept.iter().filter(|(_, sound)| !sound).count(), cuts)
+        (0..*sites).map(|_| keep(order, dice)).collect()
     };
-    let (unsound, cuts) = run(Order::AsWritten);
-    let wrong = [Order::AcknowledgedFirst, Order::RowApart, Order::KeptAfterFailure];
-    let found = wrong.map(|order| run(order).0);
+    let unsound = |kept: &[(Gateway, bool)]| kept.iter().filter(|(_, sound)| !sound).count();
+    let right = run(Order::AsWritten);
+    let all = |what: fn(&Gateway) -> usize| -> usize {
+        right.iter().map(|(gateway, _)| what(gateway)).sum()
+    };
+    let (cuts, lost) = (all(|gateway| gateway.mishaps.cuts), all(|gateway| gateway.mishaps.lost));
+    let (durable, full) =
+        (all(|gateway| gateway.mishaps.durable), all(|gateway| gateway.disk.full.len()));
     let readings = *sites as usize * PLOTS * DAYS;
-    println!(
-        "storing: {sites} sites, {readings} readings, {cuts} cuts: {unsound} sites lost or doubled one"
-    );
-    println!(
-        "storing: acknowledged first {}, row apart {}, kept after a failure {}",
-        found[0], found[1], found[2]
-    );
-    if unsound == 0 && found.iter().all(|sites| *sites > 0) {
-        ExitCode::SUCCESS
-    } else {
-        ExitCode::FAILURE
+    println!("storing: {sites} sites, {readings} readings, {full} full sheets, {cuts} cuts");
+    println!("storing: {lost} stores failed with nothing durable, {durable} with all of it");
+    println!("storing: {} sites lost or doubled a reading", unsound(&right));
+    let mut sound =
+        unsound(&right) == 0 && [cuts, lost, durable, full].iter().all(|times| *times > 0);
+    for (order, name) in WRONG {
+        let found = unsound(&run(order));
+        println!("storing: wrong order, {name}: {found} sites did");
+        sound &= found > 0;
     }
+    if sound { ExitCode::SUCCESS } else { ExitCode::FAILURE }
 }

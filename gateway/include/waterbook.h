@@ -1,8 +1,9 @@
 /* The water book of a site of plots ("cells"): the proved static library libgateway.a.
  *
- * `rt staticlib gateway` proves it and writes target/staticlib/libgateway.a; a host in C is built by
- * `cc -Igateway/include host.c target/staticlib/libgateway.a`. hosts/host.c is one. gateway/install puts library and
- * header below a prefix, for pkg-config's `waterbook`. STORING.md says when a host stores and when it acknowledges.
+ * Paths here are those of the water book's repository. `rt staticlib gateway` proves the library and writes
+ * target/staticlib/libgateway.a; a host in C is built by `cc -Igateway/include host.c target/staticlib/libgateway.a`.
+ * gateway/hosts/host.c is one. gateway/install puts library and header below a prefix, for pkg-config's `waterbook`.
+ * gateway/STORING.md says when a host stores and when it acknowledges, docs/JOURNAL.md how texts are written.
  *
  * The archive is for x86-64 Linux, called as the System V convention of that machine says, with a size_t of 64 bits.
  * One for another platform is not written.
@@ -65,6 +66,15 @@
  *    0  reader: bytes of text taken, 0 where refused;    writer: bytes written, 0 where refused
  *    1  reader: the malformed line of its text, from 1, 0 where none is;    writer: 0
  *
+ * Texts: pairs key=value, each number in plain decimals without leading zeros (top and recharge may have a minus), the
+ * head as 8 hex digits in small letters; one space between two pairs, one LF at each line's end. docs/JOURNAL.md in the
+ * repository has it to the byte. The line of a card, of soil numbers, of a reading, of its answer, of the sheet then:
+ *    cells=1 delays=2 depth=1000000 depth=2000000
+ *    top=10000000 etdepth=1500000 vadpor=200 leak=100000 cn=80
+ *    cell=0 life=0 count=0 rain=2090 irrig=0 septic=0 etmin=2000 pet=5000 amc=2 head=410c0000
+ *    cell=0 code=0 inflow=2090 runoff=0 etvad=2000 etstor=0 etsat=500 drain=0 release=0 stored=90 recharge=-500 left=90
+ *    steps=1 inflow=2090 runoff=0 etvad=2000 etstor=0 etsat=500 drain=0 release=0 stored=90 recharge=-500
+ *
  * The number that a call returns is one of enum waterbook_number below.
  */
 #ifndef WATERBOOK_H
@@ -105,7 +115,7 @@ enum waterbook_number {
     WATERBOOK_GAP = 7,
     /* Another field of the reading is out of range, life and count included, or etmin is above pet. */
     WATERBOOK_BAD_READING = 8,
-    /* The head is no number, or above 10,000 m in size. */
+    /* The head is no number, or above 10,000 m in size and is neither mark. */
     WATERBOOK_UNUSABLE_HEAD = 9,
     /* The head is marked inactive. */
     WATERBOOK_INACTIVE_HEAD = 10,
@@ -143,7 +153,8 @@ enum {
 };
 
 /* The stack that each call needs in bytes, counted from the entry of a function that does nothing but the call.
- * tests/stack measures it over the deepest inputs and runs each call on a stack of just this size. What comes on top:
+ * In the repository, tests/stack measures it over the deepest inputs and runs each call on a stack of just this size.
+ * What comes on top:
  *   a thread of the C library keeps data of its own in its stack: give it PTHREAD_STACK_MIN more, as tests/stack does;
  *   a signal handler without a stack of its own runs on this one;
  *   a loader that looks up memcpy at its first use works here too, with 3,152 bytes where that was measured: link with
@@ -164,7 +175,8 @@ enum {
 /* The room in bytes that the book of a journal of so many bytes needs. */
 #define WATERBOOK_BOOK_ROOM(journal_len) (5 * (size_t)(journal_len) + 300)
 
-/* One reading of the site. Returns 0..10 or 255.
+/* One reading of the site. Returns 0..10 or 255: 255 is looked at first, then 1 to 10 in this order, and the first that
+ * applies is returned. So a life or count out of range that is a gap as well gives 7.
  * Accepted (0): the row of the reading's cell is the row after the step, no other number of rows changes,
  * and amounts holds the ten amounts. Refused (1..10): rows stays as it came and amounts holds ten zeros.
  * A reading refused with 8, 9 or 10 does not use up its count: a corrected one may follow. */
@@ -189,7 +201,8 @@ uint32_t waterbook_add(int64_t *sheet, size_t sheet_len, uint32_t number,
 /* Reads a card text: the card's line and a line of soil numbers per cell, each with its LF; nothing after
  * them is looked at. Returns 0, 12, 2 or 255. Accepted: card, the first 5 x cells numbers of soil (no others),
  * and the bytes taken. Refused (12, 2): card holds zeros, soil stays as it came, no bytes are taken, and got
- * tells the malformed line (0 with number 2). The ranges of the numbers are left to the step. */
+ * tells the malformed line (0 with number 2). cells outside 1..256 or delays above 30 are malformed (12, line 1); all
+ * other ranges are left to the step. */
 uint32_t waterbook_read_card(const uint8_t *text, size_t text_len,
                              uint32_t *card, size_t card_len,
                              int64_t *soil, size_t soil_len,
@@ -197,7 +210,8 @@ uint32_t waterbook_read_card(const uint8_t *text, size_t text_len,
 
 /* Writes a card text at the start of buf; no byte after it changes. Returns 0, 12, 2 or 255, in the order:
  * a card that no text gives (12), soil not 5 x cells long (2), a soil number that does not fit its text (12),
- * buf too short (12). Where it is not 0, buf stays as it came. */
+ * buf too short (12). Where it is not 0, buf stays as it came. No text gives a card with cells outside 1..256,
+ * delays above 30, or an unused place that is not 0. A soil number but top fits where it is 0..4,294,967,295. */
 uint32_t waterbook_write_card(const uint32_t *card, size_t card_len,
                               const int64_t *soil, size_t soil_len,
                               uint8_t *buf, size_t buf_len,
@@ -232,7 +246,8 @@ uint32_t waterbook_write_sheet(const int64_t *sheet, size_t sheet_len,
 
 /* Writes at the start of buf all that the program waterbook prints for this journal (a card text, then
  * readings), and returns its length; no byte after it changes. A buf with less room than
- * WATERBOOK_BOOK_ROOM(journal_len) stays as it came, and 0 is returned; a book is never empty. */
+ * WATERBOOK_BOOK_ROOM(journal_len) stays as it came, and 0 is returned; a book is never empty. The book of a journal
+ * with more than WATERBOOK_LONGEST bytes is `code=12 line=0`, and of one whose card is refused with 1, `code=1`. */
 size_t waterbook_book(const uint8_t *journal, size_t journal_len,
                       uint8_t *buf, size_t buf_len);
 
