@@ -47,8 +47,15 @@ tell_progress() {
     done
 }
 
+# Two at once in one clone would take each other's proofs away; the lock is on a file that is there anyway.
+one_at_a_time() {
+    command -v flock > /dev/null && exec 8< "$here/crates.txt" || return 0
+    flock -w 2 8 || { say 'another ./run proves in this clone; waiting for it'; flock 8; }
+}
+
 ask_rt() {
     local status=0
+    one_at_a_time
     if [ -n "$outer_set" ]; then LC_ALL=$outer; else unset LC_ALL; fi
     CDPATH='' cd -- "$here" && rt check waterbook < /dev/null > "$room/rt" 2>&1 || status=$?
     echo "$status" >&7

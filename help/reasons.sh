@@ -70,7 +70,7 @@ bits_fault() { # VALUE
     elif [[ $1 =~ ^[0-9a-fA-F]{8}$ ]]; then
         why='has upper case hex digits, where lower case should stand'
     elif [[ $1 =~ ^[0-9a-fA-F]+$ ]]; then
-        why="has ${#1} hex digits, where 8 should stand (./run head METRES gives them)"
+        why="has ${#1} of 8 hex digits (./run head METRES gives them)"
     else
         why='is not 8 hex digits (./run head METRES gives them)'
     fi
@@ -117,7 +117,7 @@ take_space() { # KEY
         *[!$' \t']*)
             case $rest in
                 ' '[!$' \t']*) rest=${rest# } ;;
-                '  '*) fault "two spaces stand before it, where one should" ;;
+                '  '*) fault "more than one space stands before it" ;;
                 *) fault "a tab stands before it, where one space should" ;;
             esac
             ;;
@@ -129,7 +129,10 @@ take_space() { # KEY
 misplaced() { # KEY TOKEN
     local key=${2%%=*} kind row
     if [ -z "$2" ]; then
-        fault "a blank stands before $1"
+        case $rest in
+            *[!$' \t']*) fault "a blank stands before $1" ;;
+            *) fault "there are blanks only, where $1 should stand" ;;
+        esac
         return
     fi
     if [ "$at" -eq 1 ]; then
