@@ -58,7 +58,8 @@ ask_rt() {
     one_at_a_time
     if [ -n "$outer_set" ]; then LC_ALL=$outer; else unset LC_ALL; fi
     CDPATH='' cd -- "$here" && rt check waterbook < /dev/null > "$room/rt" 2>&1 || status=$?
-    echo "$status" >&7
+    echo "$status" > "$room/status"
+    echo >&7
 }
 
 # rt works while the journal is taken in. It has a process group of its own, so that an interrupt ends its provers too.
@@ -74,12 +75,13 @@ start_rt() {
 
 await_rt() {
     local status=''
-    until read -r -t 0.3 -u 7 status; do
+    until read -r -t 0.3 -u 7 _; do
         tell_progress
-        kill -0 "$prover" 2> /dev/null || { read -r -t 0.1 -u 7 status; break; }
+        kill -0 "$prover" 2> /dev/null || break
     done
     wait "$prover" 2> /dev/null
     prover=''
+    [ ! -e "$room/status" ] || read -r status < "$room/status"
     exec 7<&-
     [ "$status" != 0 ] || [ ! -x "$here/target/bin/waterbook" ] || return 0
     tail -n 20 "$room/rt" >&2
