@@ -1,16 +1,14 @@
 -- A host's numbers that are an answer, or a sheet, can be printed. Assumes nothing.
-use mathlib.Core.Path.{_≡_, refl, sym, ap, _∙_}
-use mathlib.Core.Bool.{Bool, true, false, false≢true, not, _&&_, _||_, and-assoc, and-true}
+use mathlib.Core.Path.{_≡_, refl, sym}
+use mathlib.Core.Bool.{Bool, true, false, false≢true, not, _||_}
 use mathlib.Core.List.{List, [], _∷_}
 use Prim.Native.Nat.{ℕ, zero, suc, _+_, _≤_, _<_}
 use native.Mathlib.Nat.{add-zero, zero-add}
-use native.Mathlib.Numerals.{add-one}
 use native.Mathlib.Omega.{arith}
 use borrow.Author.Tests.{le-leb, eqb-true}
 use lib.Dec.{eqb, leb}
 use lib.IntN.{ℤ, pos, negsuc, natAbs}
-use lib.ListN.{length, drop, getD, drop-of-length-le}
-use lib.Seq.{drop-cons}
+use lib.ListN.{length, getD}
 use mir.Syntax.{w64}
 use mir.Val.{SFits}
 use Rattle.form.specs.Signed.{isNeg}
@@ -79,15 +77,6 @@ unfolding zeros
 zeros-at [] i e h = absurd (omega arith)
 zeros-at (z ∷ l) zero e h = and-1 (eqb (natAbs z) 0) (zeros l) e
 zeros-at (z ∷ l) (suc i) e h = zeros-at l i (and-2 (eqb (natAbs z) 0) (zeros l) e) (omega arith)
-
--- ---- a turn, and the end, of looking whether each is 0
-pub zeros-turn : (ok : Bool) (i : ℕ) (l : List ℤ) → i < length l → (ok && zeros (drop i l)) ≡ ((ok && eqb (natAbs (getD l i (pos 0))) 0) && zeros (drop (i + 1) l))
-unfolding zeros
-zeros-turn ok i l h = rw (drop-cons l i (pos 0) h, add-one i) (sym (and-assoc ok (eqb (natAbs (getD l i (pos 0))) 0) (zeros (drop (suc i) l))))
-
-pub zeros-end : (ok : Bool) (i : ℕ) (l : List ℤ) → length l ≤ i → (ok && zeros (drop i l)) ≡ ok
-unfolding zeros
-zeros-end ok i l h = rw (drop-of-length-le l h) (and-true ok)
 
 -- ---- ten numbers
 module _ (l : List ℤ) (ten : length l ≡ 10) (fit : AllFit l) where

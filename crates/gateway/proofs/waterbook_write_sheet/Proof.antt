@@ -2,11 +2,11 @@
 use Rattle.gateway.proofs.Lines.{line-ill, line-none, line-done}
 use Rattle.gateway.proofs.Printable.{sheet-prints}
 use Rattle.form.specs.Put.{sets-all}
-use mathlib.Core.Bool.{true, false}
+use mathlib.Core.Bool.{true}
 use mathlib.Core.List.{[], _∷_}
 use lib.ListN.{length, length-set}
 use borrow.Author.Tests.{eq-eqb, ne-eqb, not-true, not-false}
-use mathlib.Core.Path.{_≡_, sym, ap, _∙_}
+use mathlib.Core.Path.{_≡_, sym, _∙_}
 use native.Mathlib.Omega.{arith}
 use borrow.Author.Needs.{needs}
 use Rattle.gateway.proofs.waterbook_write_sheet.Statement.{statement}

@@ -1,5 +1,5 @@
 -- `gateway::shapes::all_zero` meets its contract. Assumes nothing.
-use Rattle.gateway.proofs.Printable.{zeros-turn, zeros-end}
+use Rattle.gateway.proofs.Signs.{zeros-turn, zeros-end}
 use Rattle.gateway.specs.Shapes.{zeros}
 use lib.ListN.{length, drop}
 use Prim.Native.Nat.{_-_, _≤_}

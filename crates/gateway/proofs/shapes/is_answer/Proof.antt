@@ -1,5 +1,4 @@
 -- `gateway::shapes::is_answer` meets its contract. Assumes nothing.
-use mathlib.Core.Path.{_≡_, sym, _∙_}
 use borrow.Author.Tests.{eq-eqb, ne-eqb, le-leb, lt-leb}
 use Rattle.gateway.specs.Calls.{isAnswer}
 use borrow.Author.Needs.{needs}
