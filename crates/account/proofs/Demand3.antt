@@ -1,11 +1,11 @@
--- DEMAND 3. For any plot of a site, from its cleared row, after any calls of the site's step in any order, refused ones and other plots' among them. Assumes nothing.
-use mathlib.Core.Path.{_≡_, refl, ap, _∙_}
+-- DEMAND 3. For any plot of a site, from its cleared row, over the answers that the site's step gave to any calls in any order, refused ones and other plots' among them. Assumes nothing.
+use mathlib.Core.Path.{_≡_, sym, _∙_}
 use mathlib.Core.Bool.{true, _&&_}
 use mathlib.Core.Logic.{inr}
-use mathlib.Core.List.{List, [], _∷_}
-use Prim.Native.Nat.{ℕ, _-_, _<_, min}
+use mathlib.Core.List.{List, []}
+use Prim.Native.Nat.{ℕ, zero, suc, _<_, min}
 use lib.IntN.{ℤ, pos}
-use lib.ListN.{length, getD, replicate}
+use lib.ListN.{take, drop, getD, replicate}
 use Rattle.head.specs.Class.{classOf}
 use Rattle.cell.specs.declared.Answer.{Answer}
 use Rattle.cell.specs.declared.Answer.the-variants.{Accepted}
@@ -18,41 +18,39 @@ use Rattle.cell.specs.RangeLaws.{cleared-queue}
 use Rattle.cell.specs.Refusals.{sounded}
 use Rattle.cell.specs.CheckLaws.{InOrder, order-old, order-gap}
 use Rattle.cell.specs.Step.{stepAmounts}
-use Rattle.cell.specs.AnswerLaws.{lets-through}
+use Rattle.cell.specs.AnswerLaws.{lets-through, moves}
 use Rattle.site.specs.Rows.{partAt}
-use Rattle.site.specs.Site.{soilWidth, rowWidth, soilFits, rowsFit, cellFits, siteAnswer, clearNumber, clearRows}
+use Rattle.site.specs.Site.{soilWidth, rowWidth, soilFits, rowsFit, cellFits, siteAnswer, ClearGives}
 use Rattle.site.specs.SiteLaws.{reached, cleared-part}
-use Rattle.account.specs.Ledger.{History, Kept, countsOf, downFrom}
-use Rattle.account.specs.Run.{Call, ends, told, rowOf, plotOf, Ran, done, then}
-use Rattle.account.proofs.Induction.{over-any-run}
-use Rattle.account.proofs.Plots.{rules}
-use Rattle.account.proofs.Order.{counts-run}
+use Rattle.account.specs.Ledger.{Kept, InSequence}
+use Rattle.account.specs.Run.{Call, Ran, done, then, rowOf, stepOf, historyOf}
+use Rattle.account.proofs.Induction.{start, step, along}
+use Rattle.account.proofs.Order.{Ordered, begins, goes-on}
 
--- the history of plot p, and the queue in its row, after some calls
-module _ (card : Card) (p : ℕ) (rows : List ℕ) (cs : List Call) where
-  abbrev pub historyOf : History
-  historyOf = told (plotOf card p) rows [] cs
-
-  abbrev pub rowsAfter : List ℕ
-  rowsAfter = ends (plotOf card p) rows cs
-
-  abbrev pub queueAfterAll : List ℕ
-  queueAfterAll = queueOf (card .delays) (rowOf p rowsAfter)
-
--- once a group's due step has come, all that went into it was drawn by plants or released at that step, none at another, and none waits; a group ahead stands in its slot;
--- a step's draws over all groups are its etstor; and inflow = runoff + plant use + drainage + net recharge + waiting
-pub demand3 : (card : Card) (p : ℕ) (rows : List ℕ) → rowOf p rows ≡ replicate rowWidth 0 → (cs : List Call) → Kept (historyOf card p rows cs) (queueAfterAll card p rows cs)
-demand3 card p rows e cs = over-any-run (plotOf card p) (rules card p) (min (card .delays) 30) rows (ap (queueOf (card .delays)) e ∙ cleared-queue (card .delays)) cs
+-- of each group all the water that went in was drawn by plants, or released, or stands in the queue; a step's draws over all groups are its etstor;
+-- what stands for all groups is what the last answer says is left; and inflow = runoff + plant use + drainage + net recharge + waiting
+pub demand3 : (card : Card) (p : ℕ) {rows after : List ℕ} {cs : List Call} {answers : List Answer} → rowOf p rows ≡ replicate rowWidth 0
+    → (ran : Ran card rows cs answers after) → Kept (historyOf p [] ran) (queueOf (card .delays) (rowOf p after))
+demand3 card p e ran =
+    along card p (λ h row. Kept h (queueOf (card .delays) row)) (λ h soil row r a i. step (stepOf card soil row r a) (moves card soil row r a i)) [] ran
+    (rw (e, cleared-queue (card .delays)) (start (min (card .delays) 30)))
 
 -- the same from rows that `site::clear` has cleared
-pub after-clearing : (card : Card) (p : ℕ) (rows : List ℕ) → clearNumber card rows ≡ 0 → p < card .cells → (cs : List Call)
-    → Kept (historyOf card p (clearRows card rows) cs) (queueAfterAll card p (clearRows card rows) cs)
-after-clearing card p rows z h cs = demand3 card p (clearRows card rows) (cleared-part card rows z p h) cs
+pub after-clearing : (card : Card) (p : ℕ) {rows cleared after : List ℕ} {cs : List Call} {answers : List Answer} → ClearGives card rows 0 cleared → p < card .cells
+    → (ran : Ran card cleared cs answers after) → Kept (historyOf p [] ran) (queueOf (card .delays) (rowOf p after))
+after-clearing card p {rows} g h ran = demand3 card p (rw (g .rows-are) (cleared-part card rows (sym (g .number-is)) p h)) ran
 
--- a life's accepted readings have the counts 0, 1, 2, .. with no repeat and no gap
-pub no-repeat-no-gap : (card : Card) (p : ℕ) (rows : List ℕ) → rowOf p rows ≡ replicate rowWidth 0 → (cs : List Call) (life : ℕ)
-    → countsOf life (historyOf card p rows cs) ≡ downFrom (length (countsOf life (historyOf card p rows cs)))
-no-repeat-no-gap card p rows e cs life = counts-run card p rows e cs life
+-- at each moment: the first k calls and their answers are such a run from the same rows, and the rest is one from the rows that it left
+pub each-moment : (k : ℕ) {card : Card} {rows after : List ℕ} {cs : List Call} {answers : List Answer} → Ran card rows cs answers after
+    → (now : List ℕ) × Ran card rows (take k cs) (take k answers) now × Ran card now (drop k cs) (drop k answers) after
+each-moment zero {rows = rows} ran = (rows, done, ran)
+each-moment (suc k) done = (_, done, done)
+each-moment (suc k) (then g ran) = let m = each-moment k ran in (m .0, then g (m .1), m .2)
+
+-- in the order of acceptance the plot's first step has count 0, and each other is the next count of the same life or count 0 of a higher one
+pub in-order : (card : Card) (p : ℕ) {rows after : List ℕ} {cs : List Call} {answers : List Answer} → rowOf p rows ≡ replicate rowWidth 0
+    → (ran : Ran card rows cs answers after) → InSequence (historyOf p [] ran)
+in-order card p e ran = along card p Ordered (goes-on card) [] ran (rw e begins) .0
 
 -- a fresh life is accepted from count 0, whatever the old count was: the only checks left are those that do not look at lives and counts
 pub fresh-life : (card : Card) (soil : List ℤ) (rows : List ℕ) (r : Reading) (d : Depth)
@@ -67,17 +65,3 @@ fresh-life card soil rows r d c l k s w f g young zero-count =
     reached card soil rows r l k
     ∙ lets-through card (partAt soilWidth (r .cell) soil) row r d
     (record { card-ok = c; soil-ok = s; row-ok = w; not-old = order-old (lifeOf row) (nextOf row) r o; not-gap = order-gap (lifeOf row) (nextOf row) r o; fields-ok = f; head-ok = g })
-
--- whatever `site::step` gives, call after call, are these answers and these rows
-abbrev pub answersOf : Card → List ℕ → List Call → List Answer
-answersOf card rows [] = []
-answersOf card rows (c ∷ cs) = siteAnswer card (c .soil) rows (c .reading) ∷ answersOf card (plotOf card 0 .act rows c) cs
-
-pub ran-is : (card : Card) (p : ℕ) {rows after : List ℕ} {cs : List Call} {answers : List Answer} → Ran card rows cs answers after
-    → (answers ≡ answersOf card rows cs) × (after ≡ rowsAfter card p rows cs)
-ran-is card p done = (refl, refl)
-ran-is card p (then {rows} {next} {after} {c} {cs} {answer} {answers} g x) =
-    let y = ran-is card p x in (
-      ap (λ (b : Answer). b ∷ answers) (g .answer-is) ∙ ap (λ (bs : List Answer). siteAnswer card (c .soil) rows (c .reading) ∷ bs) (y .0 ∙ ap (λ (w : List ℕ). answersOf card w cs) (g .rows-are)),
-      y .1 ∙ ap (λ (w : List ℕ). rowsAfter card p w cs) (g .rows-are),
-    )

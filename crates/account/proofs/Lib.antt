@@ -1,7 +1,7 @@
--- The theorems about runs. `Demand3` is the one to read; the others lead to it.
+-- The theorems about runs. `Demand3` is the one to read, then `Corollaries`; the others lead to it.
 pub mod Demand3
+pub mod Corollaries
 pub mod Order
-pub mod Plots
 pub mod Induction
 pub mod Groups
 pub mod Sums

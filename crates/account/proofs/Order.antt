@@ -1,108 +1,80 @@
--- Lives and counts over any run: the accepted readings of a life have counts 0, 1, 2, .. , and a fresh life is let through from count 0. Assumes nothing.
-use mathlib.Core.Path.{_≡_, refl, ap, sym, _∙_}
-use mathlib.Core.Bool.{Bool, true, false, cond}
+-- Lives and counts: each accepted reading follows those before it, and what comes of their sequence alone. Assumes nothing.
+use mathlib.Core.Path.{_≡_, refl, sym, _∙_}
 use mathlib.Core.Logic.{_⊎_, inl, inr}
 use mathlib.Core.List.{List, [], _∷_}
-use mathlib.Core.Option.{Option, some, none, Option·some-injective}
-use Prim.Native.Nat.{ℕ, _+_, _<_}
+use Prim.Native.Nat.{ℕ, _+_, _≤_, _<_}
 use native.Mathlib.Omega.{arith}
 use native.Mathlib.Decide.{ℕ-discrete}
-use borrow.Author.Tests.{eqb-true, eq-eqb, ne-eqb}
-use lib.Dec.{eqb}
+use borrow.Author.Tests.{eq-eqb, ne-eqb}
+use lib.IntN.{ℤ}
 use lib.ListN.{length, replicate}
 use Rattle.cell.specs.declared.Amounts.{Amounts}
-use Rattle.cell.specs.declared.Answer.{Answer}
-use Rattle.cell.specs.declared.Answer.the-variants.{Accepted, Refused}
+use Rattle.cell.specs.declared.Answer.the-variants.{Accepted}
 use Rattle.cell.specs.declared.Card.{Card}
 use Rattle.cell.specs.declared.Reading.{Reading}
 use Rattle.cell.specs.Ranges.{lifeOf, nextOf}
 use Rattle.cell.specs.RangeLaws.{cleared-life, cleared-next}
-use Rattle.cell.specs.CheckLaws.{InOrder}
+use Rattle.cell.specs.Step.{answerOf, newRow}
 use Rattle.cell.specs.AnswerLaws.{was-in-order, life-after, next-after}
-use Rattle.site.specs.Rows.{partAt}
-use Rattle.site.specs.Site.{soilWidth, siteAnswer, siteRows}
-use Rattle.site.specs.SiteLaws.{row-answer, own-row}
-use Rattle.account.specs.Ledger.{Step, History, countsOf, downFrom}
-use Rattle.account.specs.Run.{Call, noted, told, rowOf, stepOf, plotOf}
-use Rattle.account.proofs.Plots.{row-quiet}
-use Rattle.account.proofs.Induction.{along}
+use Rattle.account.specs.Ledger.{Step, History, each, Follows, InSequence, countsIn, downFrom}
+use Rattle.account.specs.Run.{stepOf}
 
--- of a history and the life and next count that it left in the row
-record Ordered (h : History) (life next : ℕ) : Type 0 where
-  all : (l : ℕ) → countsOf l h ≡ downFrom (length (countsOf l h))
-  present : length (countsOf life h) ≡ next
-  later : (l : ℕ) → life < l → countsOf l h ≡ []
+-- ---- along a run: the row has the life of the last step, and as its next count that step's count + 1
+abbrev Leaves : History → ℕ → ℕ → Type 0
+Leaves [] life next = (life ≡ 0) × (next ≡ 0)
+Leaves (s ∷ h) life next = (life ≡ s .life) × (next ≡ s .count + 1)
 
--- one accepted step in order
-module _ (h : History) (life next : ℕ) (s : Step) (v : Ordered h life next) where
-  of-same : (l : ℕ) → s .life ≡ l → countsOf l (s ∷ h) ≡ s .count ∷ countsOf l h
-  of-same l e = rw (eq-eqb (s .life) l e)
+follows : (h : History) (s : Step) {life next : ℕ} → Leaves h life next → ((s .life ≡ life) × (s .count ≡ next)) ⊎ ((life < s .life) × (s .count ≡ 0)) → Follows s h
+follows [] s v (inl o) = omega arith
+follows [] s v (inr o) = o .1
+follows (last ∷ h) s v (inl o) = inl (omega arith)
+follows (last ∷ h) s v (inr o) = inr (omega arith)
 
-  of-other : (l : ℕ) → ¬ (s .life ≡ l) → countsOf l (s ∷ h) ≡ countsOf l h
-  of-other l e = rw (ne-eqb (s .life) l e)
+abbrev pub Ordered : History → List ℕ → Type 0
+Ordered h row = InSequence h × Leaves h (lifeOf row) (nextOf row)
 
-  -- its count is as many as came before it in its life
-  module _ (c : s .count ≡ length (countsOf (s .life) h)) where
-    every : (l : ℕ) → countsOf l (s ∷ h) ≡ downFrom (length (countsOf l (s ∷ h)))
-    every l = go (ℕ-discrete (s .life) l)
-      where
-        go : Dec (s .life ≡ l) → countsOf l (s ∷ h) ≡ downFrom (length (countsOf l (s ∷ h)))
-        go (yes e) = rw (of-same l e) (ap (λ (k : ℕ). k ∷ countsOf l h) (c ∙ ap (λ (k : ℕ). length (countsOf k h)) e) ∙ ap (λ (t : List ℕ). length (countsOf l h) ∷ t) (v .all l))
-        go (no e) = rw (of-other l e) (v .all l)
+pub begins : Ordered [] (replicate 32 0)
+begins = (tt, (cleared-life, cleared-next))
 
-    one-more : length (countsOf (s .life) (s ∷ h)) ≡ s .count + 1
-    one-more = rw (of-same (s .life) refl) (omega (arith, c))
+pub goes-on : (card : Card) (h : History) (soil : List ℤ) (row : List ℕ) (r : Reading) (a : Amounts) → answerOf card soil row r ≡ Accepted a
+    → Ordered h row → Ordered (stepOf card soil row r a ∷ h) (newRow card soil row r)
+goes-on card h soil row r a e v =
+    ((v .0, follows h (stepOf card soil row r a) (v .1) (was-in-order card soil row r a e)), (life-after card soil row r a e, next-after card soil row r a e))
 
-  goes-on : ((s .life ≡ life) × (s .count ≡ next)) ⊎ ((life < s .life) × (s .count ≡ 0)) → Ordered (s ∷ h) (s .life) (s .count + 1)
-  goes-on (inl e) =
-      let c : s .count ≡ length (countsOf (s .life) h) = e .1 ∙ sym (v .present) ∙ ap (λ (k : ℕ). length (countsOf k h)) (sym (e .0)) in
-      record { all = every c; present = one-more c; later = λ l k. of-other l (λ i. omega arith) ∙ v .later l (omega arith) }
-  goes-on (inr e) =
-      let c : s .count ≡ length (countsOf (s .life) h) = e .1 ∙ ap length (sym (v .later (s .life) (e .0))) in
-      record { all = every c; present = one-more c; later = λ l k. of-other l (λ i. omega arith) ∙ v .later l (omega arith) }
+-- ---- by the sequence alone
+not-back : (h : History) (last s : Step) → Follows s (last ∷ h) → last .life ≤ s .life
+not-back h last s (inl e) = omega arith
+not-back h last s (inr e) = omega arith
 
--- ---- along a run of a plot
-module _ (card : Card) (p : ℕ) where
-  abbrev Fits : History → List ℕ → Type 0
-  Fits h rows = Ordered h (lifeOf (rowOf p rows)) (nextOf (rowOf p rows))
+none-above : (h : History) (s : Step) → InSequence (s ∷ h) → (life : ℕ) → s .life ≤ life → each (λ n before. before .life ≤ life) (s ∷ h)
+none-above [] s v life k = (tt, k)
+none-above (last ∷ h) s v life k = (none-above h last (v .0) life (omega (arith, not-back h last s (v .1))), k)
 
-  module _ (h : History) (rows : List ℕ) (c : Call) (v : Fits h rows) where
-    abbrev r : Reading
-    r = c .reading
+-- lives never go back: no step before this one has a higher life
+pub lives-rise : (h : History) (s : Step) → InSequence (s ∷ h) → each (λ n before. before .life ≤ s .life) h
+lives-rise h s v = none-above h s v (s .life) (omega arith) .0
 
-    abbrev after : List ℕ
-    after = siteRows card (c .soil) rows r
+of-same : (h : History) (s : Step) (life : ℕ) → s .life ≡ life → countsIn life (s ∷ h) ≡ s .count ∷ countsIn life h
+of-same h s life e = rw (eq-eqb (s .life) life e)
 
-    accepted : (a : Amounts) → siteAnswer card (c .soil) rows r ≡ Accepted a → r .cell ≡ p → (x : Step) → x .life ≡ r .life → x .count ≡ r .count → Fits (x ∷ h) after
-    accepted a e i x el ec =
-        let soil = partAt soilWidth (r .cell) (c .soil) in
-        let b = row-answer card (c .soil) rows r a e in
-        let own = own-row card (c .soil) rows r a e in
-        let l : lifeOf (rowOf p after) ≡ x .life = ap (λ (k : ℕ). lifeOf (rowOf k after)) (sym i) ∙ ap lifeOf own ∙ life-after card soil (rowOf (r .cell) rows) r a b ∙ sym el in
-        let n : nextOf (rowOf p after) ≡ x .count + 1 = ap (λ (k : ℕ). nextOf (rowOf k after)) (sym i) ∙ ap nextOf own ∙ next-after card soil (rowOf (r .cell) rows) r a b ∙ ap (λ (k : ℕ). k + 1) (sym ec) in
-        let o : InOrder (lifeOf (rowOf p rows)) (nextOf (rowOf p rows)) r = rw i at (was-in-order card soil (rowOf (r .cell) rows) r a b) in
-        rw (l, n) (goes-on h (lifeOf (rowOf p rows)) (nextOf (rowOf p rows)) x v (rw (el, ec) o))
+of-other : (h : History) (s : Step) (life : ℕ) → ¬ (s .life ≡ life) → countsIn life (s ∷ h) ≡ countsIn life h
+of-other h s life e = rw (ne-eqb (s .life) life e)
 
-    by-answer : (b : Answer) → siteAnswer card (c .soil) rows r ≡ b → r .cell ≡ p → (x : Step) → stepOf card rows c b ≡ some x → Fits (x ∷ h) after
-    by-answer (Refused why) e i x f = let z : _≡_ {A = ℕ} 0 1 = cc in absurd (omega arith)
-    by-answer (Accepted a) e i x f =
-        accepted a e i x (ap (λ (y : Step). y .life) (sym (Option·some-injective _ x f))) (ap (λ (y : Step). y .count) (sym (Option·some-injective _ x f)))
+none-of : (h : History) (life l : ℕ) → life < l → each (λ n s. s .life ≤ life) h → countsIn l h ≡ []
+none-of [] life l k v = refl
+none-of (s ∷ h) life l k v = of-other h s l (λ e. omega arith) ∙ none-of h life l k (v .0)
 
-    by-cell : (t : Bool) → eqb (r .cell) p ≡ t → (x : Step) → cond t (stepOf card rows c (siteAnswer card (c .soil) rows r)) none ≡ some x → Fits (x ∷ h) after
-    by-cell true e x f = by-answer (siteAnswer card (c .soil) rows r) refl (eqb-true (r .cell) p e) x f
-    by-cell false e x f = let z : _≡_ {A = ℕ} 0 1 = cc in absurd (omega arith)
+-- a step's count is how many steps of its life came before it
+count-is : (h : History) (s : Step) → InSequence h → Follows s h → s .count ≡ length (countsIn (s .life) h)
+count-is [] s v e = e
+count-is (last ∷ h) s v (inl e) = rw (of-same h last (s .life) (sym (e .0)), e .0) (omega (arith, e .1, count-is h last (v .0) (v .1)))
+count-is (last ∷ h) s v (inr e) = rw (none-of (last ∷ h) (last .life) (s .life) (e .0) (none-above h last v (last .life) (omega arith))) (e .1)
 
-  keeps : (h : History) (rows : List ℕ) (c : Call) → Fits h rows → Fits (noted (plotOf card p .took rows c) h) (plotOf card p .act rows c)
-  keeps h rows c v = one (plotOf card p .took rows c) refl
-    where
-      one : (o : Option Step) → plotOf card p .took rows c ≡ o → Fits (noted o h) (plotOf card p .act rows c)
-      one none e = rw (row-quiet card p rows c e) v
-      one (some x) e = by-cell h rows c v (eqb (c .reading .cell) p) refl x e
-
-  start : Ordered [] 0 0
-  start = record { all = λ l. refl; present = refl; later = λ l k. refl }
-
-  -- the counts of the accepted readings of a life are 0, 1, 2, .. , each once: latest first, n - 1, .. , 1, 0
-  pub counts-run : (rows : List ℕ) → rowOf p rows ≡ replicate 32 0 → (cs : List Call) (life : ℕ)
-      → countsOf life (told (plotOf card p) rows [] cs) ≡ downFrom (length (countsOf life (told (plotOf card p) rows [] cs)))
-  counts-run rows e cs life = along (plotOf card p) Fits keeps [] rows cs (rw (e, cleared-life, cleared-next) start) .all life
+-- a life's counts are 0, 1, 2, .. with no repeat and no gap: the latest first, n - 1, .. , 1, 0
+pub no-repeat-no-gap : (h : History) → InSequence h → (life : ℕ) → countsIn life h ≡ downFrom (length (countsIn life h))
+no-repeat-no-gap [] v life = refl
+no-repeat-no-gap (s ∷ h) v life = go (no-repeat-no-gap h (v .0) life) (ℕ-discrete (s .life) life)
+  where
+    go : countsIn life h ≡ downFrom (length (countsIn life h)) → Dec (s .life ≡ life) → countsIn life (s ∷ h) ≡ downFrom (length (countsIn life (s ∷ h)))
+    go rest (yes e) = rw (of-same h s life e) (cc (count-is h s (v .0) (v .1)))
+    go rest (no e) = rw (of-other h s life e) rest

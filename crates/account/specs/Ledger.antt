@@ -3,13 +3,14 @@
 -- Each entry is an amount of a step; none is worked out as the difference of others.
 use mathlib.Core.Path.{_≡_}
 use mathlib.Core.Bool.{cond}
+use mathlib.Core.Logic.{_⊎_}
 use mathlib.Core.List.{List, [], _∷_}
 use Prim.Native.Nat.{ℕ, zero, suc, _+_, _-_, _≤_, _<_}
 use lib.Dec.{eqb}
 use lib.IntN.{ℤ, pos, _+ℤ_}
 use lib.ListN.{length}
 use Rattle.cell.specs.declared.Amounts.{Amounts}
-use Rattle.cell.specs.Queue.{slot, just, total}
+use Rattle.cell.specs.Queue.{slot, just}
 
 -- one accepted step: the reading's life and count, the ten amounts of the answer, the delay of step 4, and what step 7 took from each slot
 pub record Step : Type 0 where
@@ -66,37 +67,35 @@ abbrev pub plantUse : Amounts → ℕ
 plantUse a = a .etvad .0 + a .etstor .0 + a .etsat .0
 
 -- ---- demand 3, of a history and of the queue that it left
--- what step n put in, drew and released, over all groups, is its stored, its etstor and its release; and none is released of another group than n
-pub record Spread (n : ℕ) (s : Step) : Type 0 where
-  pub puts : (t : ℕ) → n + s .delay ≤ t → upTo t (put n s) ≡ s .amounts .stored .0
-  pub draws : (t : ℕ) → n + length (s .draws) ≤ t → upTo t (drew n s) ≡ s .amounts .etstor .0
-  pub frees : (t : ℕ) → n ≤ t → upTo t (freed n s) ≡ s .amounts .release .0
-  pub other : (t : ℕ) → ¬ (n ≡ t) → freed n s t ≡ 0
-
 -- something holds of each step of a history and its number
 abbrev pub each : (ℕ → Step → Type 0) → History → Type 0
 each P [] = Unit {0}
 each P (s ∷ h) = each P h × P (suc (length h)) s
 
 pub record Kept (h : History) (q : List ℕ) : Type 0 where
-  -- a group whose due step has come: all that went in was drawn or released, at its due step by `other`; and none waits
-  pub come : (t : ℕ) → t ≤ length h → over put h t ≡ over drew h t + over freed h t
-  pub gone : (t : ℕ) → t ≤ length h → stands (length h) q t ≡ 0
-  -- a group whose due step is ahead: all that went in was drawn or stands in its slot, and none was released
-  pub ahead : (t : ℕ) → length h < t → over put h t ≡ over drew h t + stands (length h) q t
-  pub early : (t : ℕ) → length h < t → over freed h t ≡ 0
-  -- the groups leave out nothing: of no step, and of nothing that waits, which is what the last answer says is left
-  pub steps : each Spread h
+  -- of every group, all that was put in was drawn by plants, or released, or stands in the queue
+  pub groups : (t : ℕ) → over put h t ≡ over drew h t + over freed h t + stands (length h) q t
+  -- over all groups, what plants drew in a step is its etstor, and what stands is what the last answer says is left
+  pub drawn : each (λ n s. (t : ℕ) → n + length (s .draws) ≤ t → upTo t (drew n s) ≡ s .amounts .etstor .0) h
   pub waits : (t : ℕ) → length h + length q ≤ t → upTo t (stands (length h) q) ≡ waiting h
-  pub queue : total q ≡ waiting h
   -- inflow so far equals runoff, plant use, drainage, water still waiting and net recharge
   pub balance : pos (sum (λ a. a .inflow .0) h) ≡ pos (sum (λ a. a .runoff .0) h + sum plantUse h + sum (λ a. a .drain .0) h + waiting h) +ℤ netRecharge h
 
 -- ---- lives and counts
+-- a step follows a history: the first has count 0, and any other is the next count of the last one's life or count 0 of a higher life
+abbrev pub Follows : Step → History → Type 0
+Follows s [] = s .count ≡ 0
+Follows s (last ∷ h) = ((s .life ≡ last .life) × (s .count ≡ last .count + 1)) ⊎ ((last .life < s .life) × (s .count ≡ 0))
+
+-- each step follows those before it
+abbrev pub InSequence : History → Type 0
+InSequence [] = Unit {0}
+InSequence (s ∷ h) = InSequence h × Follows s h
+
 -- the counts of the steps of one life, the latest first
-abbrev pub countsOf : ℕ → History → List ℕ
-countsOf life [] = []
-countsOf life (s ∷ h) = cond (eqb (s .life) life) (s .count ∷ countsOf life h) (countsOf life h)
+abbrev pub countsIn : ℕ → History → List ℕ
+countsIn life [] = []
+countsIn life (s ∷ h) = cond (eqb (s .life) life) (s .count ∷ countsIn life h) (countsIn life h)
 
 -- n - 1, .. , 2, 1, 0
 abbrev pub downFrom : ℕ → List ℕ

@@ -9,8 +9,8 @@ use borrow.Author.Tests.{le-leb, lt-leb, ne-eqb}
 use lib.ListN.{length, getD, take, drop, set, drop-of-length-le, length-drop}
 use lib.Seq.{take-all, drop-cons, drop-set-lt, take-suc-set, set-split}
 use lib.Dec.{leb, ltb, eqb}
-use Rattle.cell.specs.Ranges.{depthOk, depthsOk, slotsOk}
-use Rattle.cell.specs.Parts.{noneOf, risingFrom, heldUnder}
+use Rattle.cell.specs.Ranges.{noneOf, risingFrom, slotsOk}
+use Rattle.cell.specs.Parts.{heldUnder}
 use Rattle.cell.specs.Rules.{reachOf}
 use Rattle.cell.specs.Queue.{total, shifted, taken, spared, joined}
 
@@ -44,17 +44,7 @@ pub held-end : (ok : Bool) (l i : ℕ) (v : List ℕ) → length v ≤ i → (ok
 unfolding heldUnder
 held-end ok l i v h = rw (drop-of-length-le v h) (and-true ok)
 
--- the depths in range are those in use rising and the others 0
-pub depths-split : (m p : ℕ) (ds : List ℕ) → depthsOk m p ds ≡ (risingFrom p (take m ds) && noneOf (drop m ds))
-unfolding depthOk depthsOk noneOf risingFrom
-depths-split zero p [] = refl
-depths-split (suc m) p [] = refl
-depths-split zero p (d ∷ ds) = ap (λ (b : Bool). eqb d 0 && b) (depths-split zero d ds)
-depths-split (suc m) p (d ∷ ds) =
-    let e : suc m - 1 ≡ m = omega arith in
-    rw (e, depths-split m d ds) (sym (and-assoc (ltb p d && leb d 1000000000) (risingFrom d (take m ds)) (noneOf (drop m ds))))
-
--- and the slots are those in use below their limits and the others 0
+-- the slots in range are those in use below their limits and the others 0
 at-most-none : (s : ℕ) → leb s 0 ≡ eqb s 0
 at-most-none zero = refl
 at-most-none (suc s) = lt-leb (suc s) 0 (omega arith) ∙ sym (ne-eqb (suc s) 0 (λ z. omega arith))

@@ -1,30 +1,26 @@
 -- The starred cases of "Both sides of each edge", all of them: one table under one statement, computed over the definitions. Assumes nothing.
-use mathlib.Core.Path.{_≡_}
-use mathlib.Core.Bool.{Bool}
+use mathlib.Core.Path.{_≡_, refl, ap, _∙_}
+use mathlib.Core.Bool.{Bool, true, false, cond}
 use mathlib.Core.List.{List, [], _∷_}
-use Prim.Native.Nat.{ℕ, _<_}
+use Prim.Native.Nat.{ℕ, zero, suc, _+_, _-_, _<_, min}
+use native.Mathlib.Omega.{arith}
 use lib.Dec.{T, eqb, eqb→eq}
 use lib.IntN.{ℤ, pos, negsuc}
 use lib.Ieee.{binary32, ofBits}
-use lib.ListN.{length, getD, replicate}
+use lib.ListN.{length, getD}
+use lib.Seq.{set-getD}
 use Rattle.head.specs.Level.{levelUm}
 use Rattle.cell.specs.declared.Card.{Card}
 use Rattle.cell.specs.declared.Depth.{Depth}
 use Rattle.cell.specs.declared.Depth.the-variants.{Over, Under}
 use Rattle.cell.specs.declared.Reading.{Reading}
 use Rattle.cell.specs.declared.ranges.Soil.{Soil}
-use Rattle.cell.specs.Queue.{slot, total, shifted, taken, spared, joined}
-use Rattle.cell.specs.Rules.{curveOf, stormOf, reachOf, delayOf, shallowOf, runoffOf, lackOf, storedOf}
-use Rattle.cell.specs.Step.{given, release, curve, storm, delay, runoff, etvad, lack, sunk, stored, queueAfter}
+use Rattle.cell.specs.Queue.{slot, shifted, spared, joined}
+use Rattle.cell.specs.Rules.{curveOf, stormOf, shallowOf, runoffOf, lackOf, storedOf}
+use Rattle.cell.specs.Step.{given, release, delay, runoff, etvad, lack, sunk, stored, queueAfter}
 use Rattle.cell.specs.Table.{at, eqZ, eqZ→eq, eqNL, eqNL→eq}
 
--- a dry day, on which plants ask for at least etmin: a card with three delays, soil numbers that play no part, no rain and no irrigation
-abbrev threeDelays : Card
-threeDelays = record { cells = 1; delays = 3; depths = 1000000 ∷ 2000000 ∷ 3000000 ∷ replicate 27 0 }
-
-abbrev anySoil : Soil
-anySoil = record { top = record { 0 = pos 0 }; etdepth = 1; vadpor = 1; leak = 0; cn = 80 }
-
+-- a dry day, on which plants ask for etmin: no rain and no irrigation
 abbrev dryDay : ℕ → Reading
 dryDay etmin =
     record {
@@ -47,33 +43,56 @@ pub data Case : Type 0 where
   storm-runoff : (c rain q : ℕ) → Case
   runs-off : (g q k vadpor : ℕ) (d : Depth) (r : ℕ) → Case
   height : (bits : ℕ) (um : ℤ) → Case
-  dry-day : (etmin n : ℕ) (slots : List ℕ) (out : ℕ) (after : List ℕ) → Case
-
--- the release of a dry day, n µm above the table, and the slots after it
-abbrev dried : ℕ → ℕ → List ℕ → ℕ × List ℕ
-dried etmin n q = (release threeDelays anySoil (dryDay etmin) (Under n) q, queueAfter threeDelays anySoil (dryDay etmin) (Under n) q)
+  dry-day : (etmin : ℕ) (slots : List ℕ) (out : ℕ) (after : List ℕ) → Case
 
 abbrev pub Says : Case → Type 0
 Says (curve-number cn amc c) = curveOf cn amc ≡ c
 Says (storm-runoff c rain q) = stormOf c rain ≡ q
 Says (runs-off g q k v d r) = runoffOf g q k v d ≡ r
 Says (height bits um) = levelUm (ofBits binary32 bits) ≡ um
-Says (dry-day etmin n slots out after) = dried etmin n slots ≡ (out, after)
+-- whatever the card, the soil and the depth d > 0
+Says (dry-day etmin slots out after) = (card : Card) (soil : Soil) (n : ℕ) → 0 < n
+    → (release card soil (dryDay etmin) (Under n) slots ≡ out) × (queueAfter card soil (dryDay etmin) (Under n) slots ≡ after)
 
 test : Case → Bool
 test (curve-number cn amc c) = eqb (curveOf cn amc) c
 test (storm-runoff c rain q) = eqb (stormOf c rain) q
 test (runs-off g q k v d r) = eqb (runoffOf g q k v d) r
 test (height bits um) = eqZ (levelUm (ofBits binary32 bits)) um
-test (dry-day etmin n slots out after) = eqNL (dried etmin n slots) (out, after)
+test (dry-day etmin slots out after) = eqNL (slot slots 1, spared etmin (shifted slots)) (out, after)
+
+-- on a dry day nothing is stored, and the whole of etmin is drawn for
+module _ (card : Card) (soil : Soil) (etmin n : ℕ) where
+  nothing-stored : stored card soil (dryDay etmin) (Under n) ≡ 0
+  unfolding storedOf given sunk stored
+  nothing-stored = let e : 0 - runoff card soil (dryDay etmin) (Under n) - etvad card soil (dryDay etmin) (Under n) ≡ 0 = omega arith in rw e (same (eqb (delay card soil (dryDay etmin) (Under n)) 0))
+    where
+      same : (b : Bool) → _≡_ {A = ℕ} (cond b 0 0) 0
+      same true = refl
+      same false = refl
+
+  all-lacking : lack card soil (dryDay etmin) (Under n) ≡ etmin
+  unfolding given etvad lack lackOf
+  all-lacking = let e : min (0 - runoff card soil (dryDay etmin) (Under n)) (min etmin (etmin + 0)) ≡ 0 = omega arith in rw e (omega arith)
+
+joined-none : (k : ℕ) (q : List ℕ) → joined k 0 q ≡ q
+unfolding joined
+joined-none zero q = refl
+joined-none (suc i) q = let e : getD q i 0 + 0 ≡ getD q i 0 = omega arith in rw e (set-getD q i 0)
+
+dry-after : (card : Card) (soil : Soil) (etmin n : ℕ) (q : List ℕ) → queueAfter card soil (dryDay etmin) (Under n) q ≡ spared etmin (shifted q)
+unfolding queueAfter
+dry-after card soil etmin n q = rw (nothing-stored card soil etmin n, all-lacking card soil etmin n) (joined-none (delay card soil (dryDay etmin) (Under n)) (spared etmin (shifted q)))
 
 says : (x : Case) → T (test x) → Says x
-unfolding test
+unfolding test release
 says (curve-number cn amc c) t = eqb→eq (curveOf cn amc) c t
 says (storm-runoff c rain q) t = eqb→eq (stormOf c rain) q t
 says (runs-off g q k v d r) t = eqb→eq (runoffOf g q k v d) r t
 says (height bits um) t = eqZ→eq (levelUm (ofBits binary32 bits)) um t
-says (dry-day etmin n slots out after) t = eqNL→eq (dried etmin n slots) (out, after) t
+says (dry-day etmin slots out after) t =
+    let p = eqNL→eq (slot slots 1, spared etmin (shifted slots)) (out, after) t in
+    λ card soil n h. (ap (λ (x : ℕ × List ℕ). x .0) p, dry-after card soil etmin n slots ∙ ap (λ (x : ℕ × List ℕ). x .1) p)
 
 abbrev pub cases : List Case
 cases =
@@ -99,10 +118,9 @@ cases =
     ∷ height 0x80000001 (negsuc 0)
     ∷ height 0x461c4000 (pos 10000000000)
     -- M = 3, slots 100, 700, 5000, dry day, etmin 2000, d > 0: release 100, slots after 0, 3700, 0
-    ∷ dry-day 2000 1 (100 ∷ 700 ∷ 5000 ∷ []) 100 (0 ∷ 3700 ∷ 0 ∷ [])
-    ∷ dry-day 2000 20000000000 (100 ∷ 700 ∷ 5000 ∷ []) 100 (0 ∷ 3700 ∷ 0 ∷ [])
+    ∷ dry-day 2000 (100 ∷ 700 ∷ 5000 ∷ []) 100 (0 ∷ 3700 ∷ 0 ∷ [])
     ∷ []
 
 pub starred : (k : ℕ) → k < length cases → Says (getD cases k (storm-runoff 0 0 0))
-unfolding test curveOf stormOf reachOf delayOf shallowOf runoffOf lackOf storedOf levelUm ofBits slot total shifted taken spared joined given release curve storm delay runoff etvad lack sunk stored queueAfter
+unfolding test curveOf stormOf shallowOf runoffOf levelUm ofBits slot shifted spared
 starred k h = says (getD cases k (storm-runoff 0 0 0)) (at test (storm-runoff 0 0 0) cases tt k h)

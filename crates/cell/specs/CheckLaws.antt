@@ -1,8 +1,8 @@
 -- What is known where every check has passed, and what the order of lives and counts lets through. Assumes nothing.
-use mathlib.Core.Path.{_≡_, refl}
-use mathlib.Core.Bool.{Bool, true, false, not, _&&_, _||_, and-false}
+use mathlib.Core.Path.{_≡_, refl, _∙_}
+use mathlib.Core.Bool.{Bool, true, false, cond, not, _&&_, _||_, and-false}
 use mathlib.Core.Logic.{_⊎_, inl, inr}
-use mathlib.Core.List.{List}
+use mathlib.Core.List.{List, [], _∷_}
 use Prim.Native.Nat.{ℕ, _≤_, _<_}
 use native.Mathlib.Decide.{ℕ-discrete}
 use native.Mathlib.Omega.{arith}
@@ -26,9 +26,10 @@ use Rattle.cell.specs.declared.checks.Verdict.{Verdict}
 use Rattle.cell.specs.declared.checks.Verdict.the-variants.{Fine, Bad}
 use Rattle.cell.specs.Parts.{Checked}
 use Rattle.cell.specs.Depth.{distance, depthOf}
-use Rattle.cell.specs.Ranges.{cardOk, soilOk, soilOf, rowOk, fieldsOk, lifeOf, nextOf}
+use Rattle.cell.specs.Ranges.{cardOk, soilOk, soilOf, rowOk, fieldsOk, lifeOf, nextOf, queueOf}
 use Rattle.cell.specs.RangeLaws.{card-in, soil-in, fields-in}
-use Rattle.cell.specs.Refusals.{refusalNumber, numberOf, isOld, isGap, sounded, unless, verdictOf}
+use Rattle.cell.specs.Refusals.{refusalNumber, firstFailing, numberOf, isOld, isGap, isUnusable, isInactive, sounded, unless, verdictOf}
+use Rattle.cell.specs.Step.{stepAmounts, judged, answerOf}
 use Rattle.cell.specs.RuleLaws.{depth-le}
 
 -- ---- the checks that a reading has passed where the table stands at d
@@ -138,6 +139,47 @@ pub order-gap : (life next : ℕ) (r : Reading) → InOrder life next r → isGa
 unfolding isGap
 order-gap life next r (inl e) = simp (le-ltb next (r .count) (omega arith), le-ltb life (r .life) (omega arith), and-false)
 order-gap life next r (inr e) = simp (ne-eqb (r .life) life (λ i. omega arith), eq-eqb (r .count) 0 (e .1), and-false)
+
+-- 6 and 7 look at a reading's life and count only
+pub same-order : (life next : ℕ) (r r' : Reading) → r .life ≡ r' .life → r .count ≡ r' .count → (isOld life next r ≡ isOld life next r') × (isGap life next r ≡ isGap life next r')
+unfolding isOld isGap
+same-order life next r r' p q = (rw (p, q), rw (p, q))
+
+-- ---- the number of a verdict is that of the first check that fails
+abbrev verdictNumber : Verdict → ℕ
+verdictNumber (Fine d) = 0
+verdictNumber (Bad why) = refusalNumber why
+
+unless-number : (b : Bool) (why : Refusal) (v : Verdict) → verdictNumber (unless b why v) ≡ cond b (verdictNumber v) (refusalNumber why)
+unfolding unless
+unless-number true why v = refl
+unless-number false why v = refl
+
+sounded-number : (top : ℤ) (h : Head) → verdictNumber (sounded top h) ≡ firstFailing ((9, not (isUnusable h)) ∷ (10, not (isInactive h)) ∷ [])
+unfolding sounded
+sounded-number top Unusable = refl
+sounded-number top Inactive = refl
+sounded-number top Dry = refl
+sounded-number top (Level x) = refl
+
+module _ (card : Card) (soil : List ℤ) (row : List ℕ) (r : Reading) where
+  -- 2 and 3 are the site's
+  abbrev pub rowChecks : List (ℕ × Bool)
+  rowChecks =
+      (1, cardOk card) ∷ (4, soilOk soil) ∷ (5, rowOk (card .delays) row) ∷ (6, not (isOld (lifeOf row) (nextOf row) r)) ∷ (7, not (isGap (lifeOf row) (nextOf row) r))
+      ∷ (8, fieldsOk r) ∷ (9, not (isUnusable (classOf (r .head)))) ∷ (10, not (isInactive (classOf (r .head)))) ∷ []
+
+  verdict-number : verdictNumber (verdictOf card soil row r) ≡ firstFailing rowChecks
+  unfolding verdictOf
+  verdict-number = simp (unless-number, sounded-number)
+
+  pub row-number : numberOf (answerOf card soil row r) ≡ firstFailing rowChecks
+  unfolding answerOf judged
+  row-number = go (verdictOf card soil row r) ∙ verdict-number
+    where
+      go : (v : Verdict) → numberOf (judged v (λ d. Accepted (stepAmounts card (soilOf soil) r d (queueOf (card .delays) row))) (λ why. Refused why)) ≡ verdictNumber v
+      go (Fine d) = refl
+      go (Bad why) = refl
 
 -- ---- a refusal's number is at most 10
 refusal-most : (why : Refusal) → refusalNumber why ≤ 10

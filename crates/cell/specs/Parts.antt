@@ -1,9 +1,9 @@
--- An accepted step, and two ranges, in the parts that the code works them out in: what each part gives, and the ranges that it asks of its caller.
+-- An accepted step, and the range of the slots, in the parts that the code works them out in: what each part gives, and the ranges that it asks of its caller.
 -- Nothing here says what is right: the parts are proved to come to `Step` and `Ranges`.
 use Prim.Native.Nat.{ℕ, _+_, _-_, _≤_}
 use mathlib.Core.Bool.{Bool, true, _&&_}
 use mathlib.Core.List.{List, [], _∷_}
-use lib.Dec.{leb, ltb, eqb}
+use lib.Dec.{leb}
 use Rattle.cell.specs.declared.Amounts.{Amounts}
 use Rattle.cell.specs.declared.Card.{Card}
 use Rattle.cell.specs.declared.Depth.{Depth}
@@ -83,15 +83,7 @@ gatheredOf r w s release etstor left =
       left = left;
     }
 
--- ---- the ranges of depths and slots: those in use, and those that are not
-unfoldable pub noneOf : List ℕ → Bool
-noneOf [] = true
-noneOf (n ∷ ns) = eqb n 0 && noneOf ns
-
-unfoldable pub risingFrom : ℕ → List ℕ → Bool
-risingFrom before [] = true
-risingFrom before (d ∷ ds) = (ltb before d && leb d 1000000000) && risingFrom d ds
-
+-- ---- the range of the slots in use: `limit` at the first, 2,000,000 less at each after it
 unfoldable pub heldUnder : ℕ → List ℕ → Bool
 heldUnder limit [] = true
 heldUnder limit (s ∷ ss) = leb s limit && heldUnder (limit - 2000000) ss

@@ -1,19 +1,19 @@
 -- What a card, soil numbers, a row and a reading that are in range tell, part by part. Assumes nothing.
 use mathlib.Core.Path.{_≡_, refl}
-use mathlib.Core.Bool.{true, and-eq-true-iff}
+use mathlib.Core.Bool.{true, false, _&&_, and-false, and-eq-true-iff}
 use mathlib.Core.List.{List, [], _∷_}
-use Prim.Native.Nat.{ℕ, suc, _≤_, suc-le-suc, zero-le, min}
-use borrow.Author.Tests.{leb-true, eqb-true, le-leb, eq-eqb}
-use lib.Dec.{leb, eqb}
+use Prim.Native.Nat.{ℕ, zero, suc, _≤_, _<_, suc-le-suc, zero-le, min}
+use borrow.Author.Tests.{leb-true, ltb-true, eqb-true, le-leb, lt-leb, eq-eqb}
+use lib.Dec.{leb, ltb, eqb}
 use lib.IntN.{ℤ, pos, negsuc, natAbs}
 use lib.Signed.{leZ}
-use lib.ListN.{length, getD, take, replicate, length-replicate}
-use lib.Seq.{take-all}
+use lib.ListN.{length, getD, take, drop, replicate, length-replicate}
+use lib.Seq.{take-all, length-take-le, getD-take}
 use native.Mathlib.Decide.{decLe}
 use native.Mathlib.Omega.{arith}
 use Rattle.cell.specs.declared.Card.{Card}
 use Rattle.cell.specs.declared.Reading.{Reading}
-use Rattle.cell.specs.Ranges.{cardOk, depthsOk, within, soilOk, soilOf, lifeOf, nextOf, slotsOf, queueOf, slotsOk, rowOk, fieldsOk}
+use Rattle.cell.specs.Ranges.{countsOk, noneOf, risingFrom, cardOk, depthsOk, within, soilOk, soilOf, lifeOf, nextOf, slotsOf, queueOf, slotsOk, rowOk, fieldsOk}
 use Rattle.cell.specs.Conj.{told}
 use Rattle.cell.specs.QueueLaws.{SlotsIn, slots-in, slots-ok, first-zeros}
 
@@ -22,13 +22,63 @@ pub record CardIn (card : Card) : Type 0 where
   pub cells-low : 1 ≤ card .cells
   pub cells-high : card .cells ≤ 256
   pub delays : card .delays ≤ 30
-  pub depths : depthsOk (card .delays) 0 (card .depths) ≡ true
+  pub depths : depthsOk (card .delays) (card .depths) ≡ true
 
 pub card-in : (card : Card) → cardOk card ≡ true → CardIn card
-unfolding cardOk
+unfolding countsOk cardOk
 card-in card e =
-    let p = told (leb 1 (card .cells)) (leb (card .cells) 256 ∷ leb (card .delays) 30 ∷ depthsOk (card .delays) 0 (card .depths) ∷ []) e in
+    let p = told (leb 1 (card .cells)) (leb (card .cells) 256 ∷ leb (card .delays) 30 ∷ depthsOk (card .delays) (card .depths) ∷ []) e in
     record { cells-low = leb-true _ _ (p 0); cells-high = leb-true _ _ (p 1); delays = leb-true _ _ (p 2); depths = p 3 }
+
+-- each depth in use is at least 1, so that none is <= d where d <= 0
+above-before : (before : ℕ) (ds : List ℕ) → risingFrom before ds ≡ true → (k : ℕ) → k < length ds → before < getD ds k 0
+unfolding risingFrom
+above-before before [] e k h = absurd (omega arith)
+above-before before (d ∷ ds) e zero h = ltb-true _ _ (and-eq-true-iff _ _ .0 (and-eq-true-iff _ _ .0 e .0) .0)
+above-before before (d ∷ ds) e (suc k) h =
+    let p = and-eq-true-iff (ltb before d && leb d 1000000000) (risingFrom d ds) .0 e in
+    omega (arith, ltb-true before d (and-eq-true-iff _ _ .0 (p .0) .0), above-before d ds (p .1) k (omega arith))
+
+pub depth-least : (card : Card) → cardOk card ≡ true → (k : ℕ) → k < card .delays → 1 ≤ getD (card .depths) k 0
+unfolding depthsOk
+depth-least card e k h =
+    let c = card-in card e in
+    let p = told (eqb (length (card .depths)) 30) ((risingFrom 0 (take (card .delays) (card .depths)) && noneOf (drop (card .delays) (card .depths))) ∷ []) (c .depths) in
+    let r = and-eq-true-iff _ _ .0 (p 1) .0 in
+    let l = length-take-le (card .delays) (card .depths) (omega (arith, c .delays, eqb-true (length (card .depths)) 30 (p 0))) in
+    rw (getD-take (card .delays) (card .depths) k 0 h) at (above-before 0 (take (card .delays) (card .depths)) r k (omega (arith, l)))
+
+-- its counts by themselves: in range, or the first that is not
+pub counts-in : (cells delays : ℕ) → countsOk cells delays ≡ true → (1 ≤ cells) × (cells ≤ 256) × (delays ≤ 30)
+unfolding countsOk
+counts-in cells delays e =
+    let p = told (leb 1 cells) (leb cells 256 ∷ leb delays 30 ∷ []) e in
+    (leb-true _ _ (p 0), leb-true _ _ (p 1), leb-true _ _ (p 2))
+
+pub counts-ok : (cells delays : ℕ) → 1 ≤ cells → cells ≤ 256 → delays ≤ 30 → countsOk cells delays ≡ true
+unfolding countsOk
+counts-ok cells delays a b c = rw (le-leb _ _ a, le-leb _ _ b, le-leb _ _ c)
+
+pub no-cells : (cells delays : ℕ) → cells < 1 → countsOk cells delays ≡ false
+unfolding countsOk
+no-cells cells delays h = rw (lt-leb 1 cells h)
+
+pub many-cells : (cells delays : ℕ) → 256 < cells → countsOk cells delays ≡ false
+unfolding countsOk
+many-cells cells delays h = rw (lt-leb cells 256 h, and-false (leb 1 cells))
+
+pub many-delays : (cells delays : ℕ) → 30 < delays → countsOk cells delays ≡ false
+unfolding countsOk
+many-delays cells delays h = rw (lt-leb delays 30 h, and-false (leb 1 cells && leb cells 256))
+
+-- places that hold 0
+pub none-ends : noneOf [] ≡ true
+unfolding noneOf
+none-ends = refl
+
+pub none-more : (n : ℕ) (ns : List ℕ) → noneOf (n ∷ ns) ≡ (eqb n 0 && noneOf ns)
+unfolding noneOf
+none-more n ns = refl
 
 -- ---- the soil numbers
 pub record SoilIn (s : List ℤ) : Type 0 where

@@ -1,5 +1,5 @@
 -- Numbers and their ranges: of a card, of a cell's soil numbers, of its stored row, of a reading. Definitions only.
-use Prim.Native.Nat.{ℕ, zero, suc, _-_, _*_}
+use Prim.Native.Nat.{ℕ, _-_, _*_}
 use mathlib.Core.Bool.{Bool, true, _&&_}
 use mathlib.Core.List.{List, [], _∷_}
 use lib.Dec.{leb, ltb, eqb}
@@ -10,18 +10,27 @@ use Rattle.cell.specs.declared.Card.{Card}
 use Rattle.cell.specs.declared.Reading.{Reading}
 use Rattle.cell.specs.declared.ranges.Soil.{Soil}
 
--- ---- the card: cells 1..256; delays M 0..30; M delay depths, each 1..1,000,000,000 µm, strictly rising; unused places hold 0
--- one place, with m places in use from here on and the depth `before` in the place before it (0 at the first)
-unfoldable pub depthOk : ℕ → ℕ → ℕ → Bool
-depthOk zero before d = eqb d 0
-depthOk (suc m) before d = ltb before d && leb d 1000000000
+-- ---- the card
+-- cells 1..256; delays M 0..30
+unfoldable pub countsOk : ℕ → ℕ → Bool
+countsOk cells delays = leb 1 cells && leb cells 256 && leb delays 30
 
-unfoldable pub depthsOk : ℕ → ℕ → List ℕ → Bool
-depthsOk m before [] = true
-depthsOk m before (d ∷ ds) = depthOk m before d && depthsOk (m - 1) d ds
+-- each number is 0
+unfoldable pub noneOf : List ℕ → Bool
+noneOf [] = true
+noneOf (n ∷ ns) = eqb n 0 && noneOf ns
+
+-- strictly rising from above `before`, none above 1,000,000,000 µm
+unfoldable pub risingFrom : ℕ → List ℕ → Bool
+risingFrom before [] = true
+risingFrom before (d ∷ ds) = (ltb before d && leb d 1000000000) && risingFrom d ds
+
+-- room for 30 depths: the first M rise from above 0, unused places hold 0
+unfoldable pub depthsOk : ℕ → List ℕ → Bool
+depthsOk m ds = eqb (length ds) 30 && (risingFrom 0 (take m ds) && noneOf (drop m ds))
 
 unfoldable pub cardOk : Card → Bool
-cardOk card = leb 1 (card .cells) && leb (card .cells) 256 && leb (card .delays) 30 && depthsOk (card .delays) 0 (card .depths)
+cardOk card = countsOk (card .cells) (card .delays) && depthsOk (card .delays) (card .depths)
 
 -- ---- the soil numbers, five of them: top, etdepth, vadpor, leak, cn
 unfoldable pub within : ℤ → ℤ → ℤ → Bool

@@ -1,7 +1,7 @@
--- The refusal numbers, and the checks of a step in their order. Definitions only.
+-- The refusal numbers of every call, and the checks of a row's step in their order. Definitions only.
 use Prim.Native.Nat.{ℕ}
-use mathlib.Core.Bool.{Bool, true, false, not, _&&_, _||_}
-use mathlib.Core.List.{List}
+use mathlib.Core.Bool.{Bool, true, false, cond, not, _&&_, _||_}
+use mathlib.Core.List.{List, [], _∷_}
 use lib.Dec.{ltb, eqb}
 use lib.IntN.{ℤ, pos}
 use lib.ListN.{getD}
@@ -22,6 +22,7 @@ use Rattle.cell.specs.Water.{water, net}
 use Rattle.cell.specs.Ranges.{cardOk, soilOk, rowOk, fieldsOk, lifeOf, nextOf}
 use Rattle.cell.specs.Depth.{depthOf, dryDepth}
 
+-- ---- the numbers: 1 to 10 of a step, some of other calls too
 abbrev pub refusalNumber : Refusal → ℕ
 refusalNumber BadCard = 1
 refusalNumber BadLengths = 2
@@ -34,6 +35,19 @@ refusalNumber BadReading = 8
 refusalNumber UnusableHead = 9
 refusalNumber InactiveHead = 10
 
+-- 11 is an answer that a sheet does not take; 12 a malformed text, or nothing that can be written
+abbrev pub notAddable : ℕ
+notAddable = 11
+
+abbrev pub malformed : ℕ
+malformed = 12
+
+-- the checks of a call in the order in which it meets them, each with its number and whether it is passed: the number of the first that is not, 0 where all are
+abbrev pub firstFailing : List (ℕ × Bool) → ℕ
+firstFailing [] = 0
+firstFailing (check ∷ more) = cond (check .1) (firstFailing more) (check .0)
+
+-- ---- answers
 -- the number of an answer: 0 where it was accepted
 abbrev pub numberOf : Answer → ℕ
 numberOf (Accepted a) = 0
@@ -60,6 +74,7 @@ abbrev pub amountsOf : Answer → Amounts
 amountsOf (Accepted a) = a
 amountsOf (Refused r) = nothing
 
+-- ---- the checks of a row's step
 -- of a row's life and next count
 -- 6. old: life lower, or same life and count lower than next
 unfoldable pub isOld : ℕ → ℕ → Reading → Bool
@@ -69,7 +84,20 @@ isOld life next r = ltb (r .life) life || (eqb (r .life) life && ltb (r .count) 
 unfoldable pub isGap : ℕ → ℕ → Reading → Bool
 isGap life next r = (eqb (r .life) life && ltb next (r .count)) || (ltb life (r .life) && not (eqb (r .count) 0))
 
--- 9 and 10. What passes is a depth
+-- 9. head unusable; 10. head marked inactive
+abbrev pub isUnusable : Head → Bool
+isUnusable Unusable = true
+isUnusable Inactive = false
+isUnusable Dry = false
+isUnusable (Level x) = false
+
+abbrev pub isInactive : Head → Bool
+isInactive Unusable = false
+isInactive Inactive = true
+isInactive Dry = false
+isInactive (Level x) = false
+
+-- what passes both is a depth
 unfoldable pub sounded : ℤ → Head → Verdict
 sounded top Unusable = Bad UnusableHead
 sounded top Inactive = Bad InactiveHead

@@ -16,7 +16,7 @@ use Rattle.cell.specs.declared.checks.Verdict.{Verdict}
 use Rattle.cell.specs.declared.checks.Verdict.the-variants.{Fine, Bad}
 use Rattle.cell.specs.Water.{water, net}
 use Rattle.cell.specs.Ranges.{soilOf, queueOf}
-use Rattle.cell.specs.Refusals.{verdictOf}
+use Rattle.cell.specs.Refusals.{refusalNumber, numberOf, nothing, amountsOf, verdictOf}
 use Rattle.cell.specs.Queue.{slot, total, shifted, taken, spared, joined}
 use Rattle.cell.specs.Rules.{curveOf, stormOf, delayOf, runoffOf, etvadOf, lackOf, etsatOf, drainOf, storedOf, directOf, rechargeOf}
 
@@ -128,7 +128,9 @@ stepDelay card soil row r = judged (verdictOf card soil row r) (λ d. delay card
 unfoldable pub stepDraws : Card → List ℤ → List ℕ → Reading → List ℕ
 stepDraws card soil row r = judged (verdictOf card soil row r) (λ d. draws card (soilOf soil) r d (queueOf (card .delays) row)) (λ why. [])
 
--- the one-row step: its answer, and the row at exit
+-- the one-row step: its answer, with its number and amounts, and the row at exit
 pub record StepGives (card : Card) (soil : List ℤ) (row : List ℕ) (r : Reading) (answer : Answer) (after : List ℕ) : Type 0 where
   pub answer-is : answer ≡ answerOf card soil row r
+  pub number-is : numberOf answer ≡ judged (verdictOf card soil row r) (λ d. 0) refusalNumber
+  pub amounts-are : amountsOf answer ≡ judged (verdictOf card soil row r) (λ d. stepAmounts card (soilOf soil) r d (queueOf (card .delays) row)) (λ why. nothing)
   pub row-is : after ≡ newRow card soil row r

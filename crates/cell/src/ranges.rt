@@ -5,8 +5,8 @@ ghost use Prim.Native.Nat.{_-_, _*_, _≤_};
 ghost use lib.IntN.{pos, natAbs};
 ghost use lib.ListN.{length};
 ghost use lib.Signed.{leZ};
-ghost use Rattle.cell.specs.Parts.{noneOf, risingFrom, heldUnder};
-ghost use Rattle.cell.specs.Ranges.{depthsOk, within, soilOk, soilOf, slotsOk, rowOk, fieldsOk};
+ghost use Rattle.cell.specs.Parts.{heldUnder};
+ghost use Rattle.cell.specs.Ranges.{noneOf, risingFrom, depthsOk, within, soilOk, soilOf, slotsOk, rowOk, fieldsOk};
 use crate::Reading;
 use head::Height;
 
@@ -57,7 +57,7 @@ fn rising(used: &[u32]) -> bool
 
 pub fn depths_ok(depths: [u32; 30], m: u32) -> bool
     requires { ⌜ m ≤ 30 ⌝ }
-    ensures { λ r. ⌜ r ≡ depthsOk m 0 depths ⌝ }
+    ensures { λ r. ⌜ r ≡ depthsOk m depths ⌝ }
 {
     let n = m as usize;
     if !rising(&depths[..n]) {

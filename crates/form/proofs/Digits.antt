@@ -22,7 +22,7 @@ use lib.IntN.{ℤ, pos, negsuc, natAbs}
 use Rattle.form.specs.Hex.{hexGo, hexOf, hexAt}
 use Rattle.form.specs.declared.decimal.Num.{Num}
 use Rattle.form.specs.declared.decimal.Num.the-variants.{Value, Bad}
-use Rattle.form.specs.Many.{rowsFit}
+use Rattle.form.specs.Many.{manyFit}
 
 module _ (s : List ℕ) (m : ℕ) where
   pub start-end : (i : ℕ) → length s ≤ i → numAt m s i ≡ Bad
@@ -202,21 +202,21 @@ module _ (f : List ℕ) (k : ℕ) (c : ℕ) (h : k < length f) (q : c ≡ getD f
   unfolding fits
   fits-lit vs m = rw (add-one k, drop-cons f k 0 h, ← q, m)
 
-pub rowsfit-end : (n : ℕ) (f : List ℕ) (vs : List ℤ) → n ≡ 0 → rowsFit n f vs ≡ true
-unfolding rowsFit
-rowsfit-end n f vs e = rw e
+pub manyfit-end : (n : ℕ) (f : List ℕ) (vs : List ℤ) → n ≡ 0 → manyFit n f vs ≡ true
+unfolding manyFit
+manyfit-end n f vs e = rw e
 
 module _ (n k j w : ℕ) (f : List ℕ) (vs : List ℤ) (h : k < n) (q : w ≡ marks f) where
   left-1 : n - k ≡ suc (n - (k + 1))
   left-1 = omega arith
 
-  pub rowsfit-yes : fits f (drop j vs) ≡ true → rowsFit (n - k) f (drop j vs) ≡ rowsFit (n - (k + 1)) f (drop (j + w) vs)
-  unfolding rowsFit
-  rowsfit-yes o = rw (left-1, o, q, drop-drop (marks f) j vs)
+  pub manyfit-yes : fits f (drop j vs) ≡ true → manyFit (n - k) f (drop j vs) ≡ manyFit (n - (k + 1)) f (drop (j + w) vs)
+  unfolding manyFit
+  manyfit-yes o = rw (left-1, o, q, drop-drop (marks f) j vs)
 
-  pub rowsfit-no : fits f (drop j vs) ≡ false → rowsFit (n - k) f (drop j vs) ≡ false
-  unfolding rowsFit
-  rowsfit-no o = rw (left-1, o)
+  pub manyfit-no : fits f (drop j vs) ≡ false → manyFit (n - k) f (drop j vs) ≡ false
+  unfolding manyFit
+  manyfit-no o = rw (left-1, o)
 
 pub ok-signed : (c : ℕ) (z : ℤ) → SFits w64 z → c ≡ 36 → true ≡ okVal c z
 ok-signed c (pos n) f e = rw (eq-eqb c 36 e, lt-ltb n 9223372036854775808 (f .sfits))

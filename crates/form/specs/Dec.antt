@@ -20,7 +20,7 @@ dec n = decF (suc n) n
 abbrev pub digitOf : ℕ → ℕ
 digitOf c = cond (ltb c 48) 10 (cond (ltb 57 c) 10 (c - 48))
 
--- v was read before the place i, and t stands from i on: all digits that follow are taken; a digit after a 0, or a value above max, is bad
+-- v was read before the place i, and t stands from i on: all digits that follow are taken; a digit after a 0, or one that makes the value more than max, is bad
 unfoldable pub numGo : ℕ → ℕ → ℕ → List ℕ → Num
 numGo max v i [] = Value v i
 numGo max v i (c ∷ t) =
@@ -28,7 +28,7 @@ numGo max v i (c ∷ t) =
     (cond (eqb v 0) Bad
     (cond (ltb max (v * 10 + digitOf c)) Bad (numGo max (v * 10 + digitOf c) (suc i) t)))
 
--- a number that starts at the place i, where t stands
+-- a number that starts at the place i, where t stands; max is at least 9, so that its first digit is never above it
 unfoldable pub numStart : ℕ → ℕ → List ℕ → Num
 numStart max i [] = Bad
 numStart max i (c ∷ t) = cond (ltb 9 (digitOf c)) Bad (numGo max (digitOf c) (suc i) t)

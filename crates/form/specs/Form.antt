@@ -109,17 +109,7 @@ abbrev pub okVal : ℕ → ℤ → Bool
 okVal c (pos n) = cond (eqb c 36) (ltb n 9223372036854775808) (ltb n 4294967296)
 okVal c (negsuc n) = cond (eqb c 36) (ltb n 9223372036854775808) false
 
--- one for each mark, of its kind
-unfoldable pub okVals : List ℕ → List ℤ → Bool
-okVals [] [] = true
-okVals [] (z ∷ zs) = false
-okVals (c ∷ f) [] = let r = okVals f [] in cond (isMark c) false r
-okVals (c ∷ f) (z ∷ zs) =
-    let a = okVals f zs in
-    let b = okVals f (z ∷ zs) in
-    cond (isMark c) (okVal c z && a) b
-
--- the same of the values at the front of a longer list
+-- the values at the front, one for each mark, of its kind; values behind them are not looked at
 unfoldable pub fits : List ℕ → List ℤ → Bool
 fits [] vs = true
 fits (c ∷ f) vs =

@@ -19,7 +19,7 @@ use Rattle.form.specs.Signed.{isNeg, size-fits}
 use Rattle.form.specs.Words.{wordOf}
 use mir.Syntax.{w64}
 use mir.Val.{SFits}
-use Rattle.form.specs.Form.{byteAt, posOf, negOf, valAt, valText, isMark, Out, push, failed, withVal, formAt, formText, headOr, marks, okVal, okVals}
+use Rattle.form.specs.Form.{byteAt, posOf, negOf, valAt, valText, isMark, Out, push, failed, withVal, formAt, formText, headOr, marks, headZ, tailZ, okVal, fits}
 use Rattle.form.specs.declared.decimal.Num.{Num}
 use Rattle.form.specs.declared.decimal.Num.the-variants.{Value, Bad}
 use Rattle.form.specs.declared.value.Val.{Val}
@@ -194,7 +194,7 @@ pub record FormRead (f s : List ℕ) (at : ℕ) (o : Out) : Type 0 where
   pub text : take (o .next) s ≡ take at s ++ formText f (o .vals)
   pub low : at ≤ o .next
   pub room : o .next ≤ length s
-  pub fits : okVals f (o .vals) ≡ true
+  pub fits : fits f (o .vals) ≡ true
 
 abbrev pub all-bytes : List ℕ → Bool
 all-bytes [] = true
@@ -211,14 +211,9 @@ pub and-2 : (a b : Bool) → (a && b) ≡ true → b ≡ true
 and-2 true b e = e
 and-2 false b e = absurd (false≢true e)
 
-pub ok-lit : (c : ℕ) (f : List ℕ) (vs : List ℤ) → isMark c ≡ false → okVals (c ∷ f) vs ≡ okVals f vs
-unfolding okVals
-ok-lit c f [] m = rw m
-ok-lit c f (z ∷ zs) m = rw m
-
 -- what is read as a form is the one text of the values read
 pub form-one : (f s : List ℕ) (at : ℕ) → all-bytes f ≡ true → at ≤ length s → formAt f s at .ok ≡ true → FormRead f s at (formAt f s at)
-unfolding formAt formText okVals
+unfolding formAt formText fits
 form-one [] s at w l e = record { text = sym (append-nil (take at s)); low = omega arith; room = l; fits = refl }
 form-one (c ∷ f) s at w l e = go (isMark c) refl (form-one f s)
   where
@@ -233,7 +228,7 @@ form-one (c ∷ f) s at w l e = go (isMark c) refl (form-one f s)
           text = rw m (r .text ∙ ap (λ (x : List ℕ). x ++ formText f (formAt f s n .vals)) (v .text) ∙ append-assoc (take at s) (valText c z) (formText f (formAt f s n .vals)));
           low = omega (arith, v .low, r .low);
           room = r .room;
-          fits = rw m (and-i (okVal c z) (okVals f (formAt f s n .vals)) (v .fits) (r .fits));
+          fits = rw m (and-i (okVal c z) (fits f (formAt f s n .vals)) (v .fits) (r .fits));
         }
     by-val Not g m e ih = absurd (false≢true e)
 
@@ -247,7 +242,7 @@ form-one (c ∷ f) s at w l e = go (isMark c) refl (form-one f s)
           text = rw m (r .text ∙ ap (λ (x : List ℕ). x ++ formText f (formAt f s (suc at) .vals)) (take-byte s at c a b) ∙ append-snoc (take at s) c (formText f (formAt f s (suc at) .vals)));
           low = omega (arith, r .low);
           room = r .room;
-          fits = ok-lit c f (formAt f s (suc at) .vals) m ∙ r .fits;
+          fits = rw m (r .fits);
         }
     by-lit false g m e ih = absurd (false≢true e)
 
@@ -272,28 +267,30 @@ byte-seam p c x = rw (drop-append-seam p (c ∷ x))
 abbrev pub read : ℕ → List ℤ → Out
 read n vs = record { ok = true; next = n; vals = vs }
 
--- the text of a form is read back, whatever stands behind it
-pub form-back : (f : List ℕ) (vs : List ℤ) (p q : List ℕ) → okVals f vs ≡ true → parted f q ≡ true
+-- the text of a form with a fitting value for each mark is read back, whatever stands behind it
+pub form-back : (f : List ℕ) (vs : List ℤ) (p q : List ℕ) → length vs ≡ marks f → fits f vs ≡ true → parted f q ≡ true
     → formAt f (p ++ (formText f vs ++ q)) (length p) ≡ read (length p + length (formText f vs)) vs
-unfolding formAt formText okVals
-form-back [] [] p q o h = rw (add-zero (length p))
-form-back [] (z ∷ zs) p q o h = absurd (false≢true o)
-form-back (c ∷ f) vs p q o h = go (isMark c) refl vs o (form-back f)
+unfolding formAt formText fits
+form-back [] [] p q l o h = rw (add-zero (length p))
+form-back [] (z ∷ zs) p q l o h = absurd (omega arith)
+form-back (c ∷ f) vs p q l o h = go (isMark c) refl vs l o (form-back f)
   where
     Ih : Type 0
-    Ih = (vs : List ℤ) (p q : List ℕ) → okVals f vs ≡ true → parted f q ≡ true → formAt f (p ++ (formText f vs ++ q)) (length p) ≡ read (length p + length (formText f vs)) vs
+    Ih = (vs : List ℤ) (p q : List ℕ) → length vs ≡ marks f → fits f vs ≡ true → parted f q ≡ true
+        → formAt f (p ++ (formText f vs ++ q)) (length p) ≡ read (length p + length (formText f vs)) vs
 
-    go : (b : Bool) → isMark c ≡ b → (vs : List ℤ) → okVals (c ∷ f) vs ≡ true → Ih
+    go : (b : Bool) → isMark c ≡ b → (vs : List ℤ) → length vs ≡ marks (c ∷ f) → fits (c ∷ f) vs ≡ true → Ih
         → formAt (c ∷ f) (p ++ (formText (c ∷ f) vs ++ q)) (length p) ≡ read (length p + length (formText (c ∷ f) vs)) vs
-    go true m [] o ih = absurd (false≢true (rw m at o))
-    go true m (z ∷ zs) o ih =
-        let o1 : (okVal c z && okVals f zs) ≡ true = rw m at o in
+    go true m [] l o ih = absurd (let k : 0 ≡ suc (marks f) = rw m at l in omega arith)
+    go true m (z ∷ zs) l o ih =
+        let k : suc (length zs) ≡ suc (marks f) = rw m at l in
+        let o1 : (okVal c z && fits f zs) ≡ true = rw m at o in
         let h1 : (apart f q && parted f q) ≡ true = rw m at h in
-        let v = val-back c z p (formText f zs ++ q) m (and-1 (okVal c z) (okVals f zs) o1) (apart-stops f zs q (and-1 (apart f q) (parted f q) h1)) in
-        let r = ih zs (p ++ valText c z) q (and-2 (okVal c z) (okVals f zs) o1) (and-2 (apart f q) (parted f q) h1) in
+        let v = val-back c z p (formText f zs ++ q) m (and-1 (okVal c z) (fits f zs) o1) (apart-stops f zs q (and-1 (apart f q) (parted f q) h1)) in
+        let r = ih zs (p ++ valText c z) q (omega arith) (and-2 (okVal c z) (fits f zs) o1) (and-2 (apart f q) (parted f q) h1) in
         rw (m, append-assoc (valText c z) (formText f zs) q, v, length-append (valText c z) (formText f zs)) (ap (push z) (rw (append-assoc p (valText c z), length-append p (valText c z), add-assoc (length p) (length (valText c z)) (length (formText f zs))) at r))
-    go false m vs o ih =
-        let r = ih vs (p ++ (c ∷ [])) q (sym (ok-lit c f vs m) ∙ o) (rw m at h) in
+    go false m vs l o ih =
+        let r = ih vs (p ++ (c ∷ [])) q (rw m at l) (rw m at o) (rw m at h) in
         rw (m, byte-seam p c (formText f vs ++ q), eq-eqb c c refl) (rw (append-snoc p c (formText f vs ++ q), length-append p (c ∷ []), add-one (length p), suc-add (length p) (length (formText f vs)), ← add-suc (length p) (length (formText f vs))) at r)
 
 -- ---- lengths and writing
@@ -327,18 +324,6 @@ val-most c z h = go (eqb c 37) refl (isNeg z) refl
 pub len-val : (c : ℕ) (z : ℤ) → SFits w64 z → length (valText c z) ≤ 21
 len-val c z f = val-most c z (size-fits z f)
 
--- a form has as many values as marks
-pub ok-length : (f : List ℕ) (vs : List ℤ) → okVals f vs ≡ true → length vs ≡ marks f
-unfolding okVals
-ok-length [] [] o = refl
-ok-length [] (z ∷ zs) o = absurd (false≢true o)
-ok-length (c ∷ f) vs o = go (isMark c) refl vs o (ok-length f)
-  where
-    go : (b : Bool) → isMark c ≡ b → (vs : List ℤ) → okVals (c ∷ f) vs ≡ true → ((vs : List ℤ) → okVals f vs ≡ true → length vs ≡ marks f) → length vs ≡ marks (c ∷ f)
-    go true m [] o ih = absurd (false≢true (rw m at o))
-    go true m (z ∷ zs) o ih = rw m (ap suc (ih zs (and-2 (okVal c z) (okVals f zs) (rw m at o))))
-    go false m vs o ih = rw m (ih vs (sym (ok-lit c f vs m) ∙ o))
-
 -- a form with no signed value: each value it can carry is a natural number of 32 bits
 abbrev pub plain : List ℕ → Bool
 plain [] = true
@@ -351,20 +336,21 @@ ok-word : (c : ℕ) (z : ℤ) → eqb c 36 ≡ false → okVal c z ≡ true → 
 ok-word c (pos n) p o = let h : ltb n 4294967296 ≡ true = rw p at o in rw h
 ok-word c (negsuc n) p o = absurd (false≢true (rw p at o))
 
-pub ok-words : (f : List ℕ) (vs : List ℤ) → plain f ≡ true → okVals f vs ≡ true → map unword vs ≡ vs
-unfolding okVals
-ok-words [] [] p o = refl
-ok-words [] (z ∷ zs) p o = absurd (false≢true o)
-ok-words (c ∷ f) vs p o = go (eqb c 36) refl (isMark c) refl vs o (ok-words f)
+pub ok-words : (f : List ℕ) (vs : List ℤ) → plain f ≡ true → length vs ≡ marks f → fits f vs ≡ true → map unword vs ≡ vs
+unfolding fits
+ok-words [] [] p l o = refl
+ok-words [] (z ∷ zs) p l o = absurd (omega arith)
+ok-words (c ∷ f) vs p l o = go (eqb c 36) refl (isMark c) refl vs l o (ok-words f)
   where
-    go : (a : Bool) → eqb c 36 ≡ a → (b : Bool) → isMark c ≡ b → (vs : List ℤ) → okVals (c ∷ f) vs ≡ true
-        → ((vs : List ℤ) → plain f ≡ true → okVals f vs ≡ true → map unword vs ≡ vs) → map unword vs ≡ vs
-    go true q b m vs o ih = absurd (false≢true (rw q at p))
-    go false q true m [] o ih = refl
-    go false q true m (z ∷ zs) o ih =
-        let o1 : (okVal c z && okVals f zs) ≡ true = rw m at o in
-        rw (ok-word c z q (and-1 (okVal c z) (okVals f zs) o1), ih zs (rw q at p) (and-2 (okVal c z) (okVals f zs) o1))
-    go false q false m vs o ih = ih vs (rw q at p) (sym (ok-lit c f vs m) ∙ o)
+    go : (a : Bool) → eqb c 36 ≡ a → (b : Bool) → isMark c ≡ b → (vs : List ℤ) → length vs ≡ marks (c ∷ f) → fits (c ∷ f) vs ≡ true
+        → ((vs : List ℤ) → plain f ≡ true → length vs ≡ marks f → fits f vs ≡ true → map unword vs ≡ vs) → map unword vs ≡ vs
+    go true q b m vs l o ih = absurd (false≢true (rw q at p))
+    go false q true m [] l o ih = refl
+    go false q true m (z ∷ zs) l o ih =
+        let k : suc (length zs) ≡ suc (marks f) = rw m at l in
+        let o1 : (okVal c z && fits f zs) ≡ true = rw m at o in
+        rw (ok-word c z q (and-1 (okVal c z) (fits f zs) o1), ih zs (rw q at p) (omega arith) (and-2 (okVal c z) (fits f zs) o1))
+    go false q false m vs l o ih = ih vs (rw q at p) (rw m at l) (rw m at o)
 
 -- n values from the place i on
 abbrev pub cells : ℕ → ℕ → List ℤ → List ℤ
@@ -388,17 +374,31 @@ small-ok : (c : ℕ) (z : ℤ) → eqb c 36 ≡ false → smallZ z ≡ true → 
 small-ok c (pos n) p o = rw p o
 small-ok c (negsuc n) p o = absurd (false≢true o)
 
-pub small-oks : (f : List ℕ) (vs : List ℤ) → plain f ≡ true → allSmall vs ≡ true → length vs ≡ marks f → okVals f vs ≡ true
-unfolding okVals
-small-oks [] [] p o l = refl
-small-oks [] (z ∷ zs) p o l = absurd (omega arith)
-small-oks (c ∷ f) vs p o l = go (eqb c 36) refl (isMark c) refl vs o l (small-oks f)
+small-head : (vs : List ℤ) → allSmall vs ≡ true → smallZ (headZ vs) ≡ true
+small-head [] o = refl
+small-head (z ∷ zs) o = and-1 (smallZ z) (allSmall zs) o
+
+small-tail : (vs : List ℤ) → allSmall vs ≡ true → allSmall (tailZ vs) ≡ true
+small-tail [] o = refl
+small-tail (z ∷ zs) o = and-2 (smallZ z) (allSmall zs) o
+
+pub small-oks : (f : List ℕ) (vs : List ℤ) → plain f ≡ true → allSmall vs ≡ true → fits f vs ≡ true
+unfolding fits
+small-oks [] vs p o = refl
+small-oks (c ∷ f) vs p o = go (eqb c 36) refl (isMark c) refl (small-oks f)
   where
-    go : (a : Bool) → eqb c 36 ≡ a → (b : Bool) → isMark c ≡ b → (vs : List ℤ) → allSmall vs ≡ true → length vs ≡ marks (c ∷ f)
-        → ((vs : List ℤ) → plain f ≡ true → allSmall vs ≡ true → length vs ≡ marks f → okVals f vs ≡ true) → okVals (c ∷ f) vs ≡ true
-    go true q b m vs o l ih = absurd (false≢true (rw q at p))
-    go false q true m [] o l ih = absurd (let k : 0 ≡ suc (marks f) = rw m at l in omega arith)
-    go false q true m (z ∷ zs) o l ih =
-        let k : suc (length zs) ≡ suc (marks f) = rw m at l in
-        rw m (and-i (okVal c z) (okVals f zs) (small-ok c z q (and-1 (smallZ z) (allSmall zs) o)) (ih zs (rw q at p) (and-2 (smallZ z) (allSmall zs) o) (omega arith)))
-    go false q false m vs o l ih = ok-lit c f vs m ∙ ih vs (rw q at p) o (rw m at l)
+    go : (a : Bool) → eqb c 36 ≡ a → (b : Bool) → isMark c ≡ b → ((vs : List ℤ) → plain f ≡ true → allSmall vs ≡ true → fits f vs ≡ true) → fits (c ∷ f) vs ≡ true
+    go true q b m ih = absurd (false≢true (rw q at p))
+    go false q true m ih = rw m (and-i (okVal c (headZ vs)) (fits f (tailZ vs)) (small-ok c (headZ vs) q (small-head vs o)) (ih (tailZ vs) (rw q at p) (small-tail vs o)))
+    go false q false m ih = rw m (ih vs (rw q at p) o)
+
+-- values behind those of the marks are not looked at
+pub fits-take : (f : List ℕ) (vs : List ℤ) → fits f (take (marks f) vs) ≡ fits f vs
+unfolding fits
+fits-take [] vs = refl
+fits-take (c ∷ f) vs = go (isMark c) refl vs (fits-take f)
+  where
+    go : (b : Bool) → isMark c ≡ b → (vs : List ℤ) → ((vs : List ℤ) → fits f (take (marks f) vs) ≡ fits f vs) → fits (c ∷ f) (take (marks (c ∷ f)) vs) ≡ fits (c ∷ f) vs
+    go true m [] ih = rw m
+    go true m (z ∷ zs) ih = rw (m, ih zs)
+    go false m vs ih = rw (m, ih vs)

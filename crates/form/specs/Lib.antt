@@ -15,4 +15,5 @@ pub mod LengthLaws
 pub mod EndLaws
 pub mod RunLaws
 pub mod ManyLaws
+pub mod BehindLaws
 pub mod Put

@@ -1,10 +1,10 @@
 -- A form that stands several times, one behind the other. Definitions only.
-use mathlib.Core.List.{List, [], _∷_, _++_}
+use mathlib.Core.List.{List, [], _++_}
 use mathlib.Core.Bool.{Bool, true, false, cond, _&&_}
 use Prim.Native.Nat.{ℕ, zero, suc, _+_}
 use lib.ListN.{take, drop}
 use lib.IntN.{ℤ}
-use Rattle.form.specs.Form.{formAt, marks, formText, okVals, fits}
+use Rattle.form.specs.Form.{formAt, marks, formText, fits}
 use Rattle.form.specs.declared.lines.Ran.{Ran}
 
 -- what reading n times a form finds: as for one form, and how many stood there
@@ -32,13 +32,7 @@ rowsText (suc n) f vs = formText f (take (marks f) vs) ++ rowsText n f (drop (ma
 abbrev pub ranOf : Run → ℕ → Ran
 ranOf r k = record { ok = r .ok; next = r .next; good = k + r .good }
 
--- ---- which values n rows can carry, all of them used
-unfoldable pub okRows : ℕ → List ℕ → List ℤ → Bool
-okRows zero f [] = true
-okRows zero f (z ∷ zs) = false
-okRows (suc n) f vs = let r = okRows n f (drop (marks f) vs) in okVals f (take (marks f) vs) && r
-
--- the same of the values at the front
-unfoldable pub rowsFit : ℕ → List ℕ → List ℤ → Bool
-rowsFit zero f vs = true
-rowsFit (suc n) f vs = let r = rowsFit n f (drop (marks f) vs) in fits f vs && r
+-- which values n rows can carry: those at the front, row by row
+unfoldable pub manyFit : ℕ → List ℕ → List ℤ → Bool
+manyFit zero f vs = true
+manyFit (suc n) f vs = let r = manyFit n f (drop (marks f) vs) in fits f vs && r

@@ -6,22 +6,22 @@ use Prim.Native.Nat.{ℕ, zero, suc, _+_, _-_, _*_, _≤_, _<_}
 use native.Mathlib.Nat.{add-zero, add-assoc}
 use native.Mathlib.Omega.{arith}
 use lib.ListN.{length, take, drop, length-append, length-drop, take-append-drop}
-use lib.Seq.{take-at, drop-at, drop-drop, take-append-le, drop-append-le}
+use lib.Seq.{length-take-le, take-at, drop-at, drop-drop, take-append-le, drop-append-le}
 use lib.IntN.{ℤ}
-use Rattle.form.specs.Form.{Out, formAt, formText, marks, isMark, okVals, fits}
+use Rattle.form.specs.Form.{Out, formAt, formText, marks, isMark, fits}
 use Rattle.form.specs.DecLaws.{stops}
-use Rattle.form.specs.FormLaws.{form-one, form-back, ok-lit, ok-words, plain, unword, smallZ, allSmall, small-oks, apart, apart-stops, parted, all-bytes, and-i, and-1, and-2}
-use Rattle.form.specs.Many.{Run, onto, manyAt, rowsText, okRows, rowsFit}
+use Rattle.form.specs.FormLaws.{form-one, form-back, fits-take, ok-words, plain, unword, smallZ, allSmall, small-oks, apart, apart-stops, parted, all-bytes, and-i, and-1, and-2}
+use Rattle.form.specs.Many.{Run, onto, manyAt, rowsText, manyFit}
 use Rattle.form.specs.RunLaws.{form-length}
 
 pub record RowsRead (n : ℕ) (f s : List ℕ) (at : ℕ) (r : Run) : Type 0 where
   pub text : take (r .next) s ≡ take at s ++ rowsText n f (r .vals)
   pub low : at ≤ r .next
   pub room : r .next ≤ length s
-  pub fits : okRows n f (r .vals) ≡ true
+  pub fits : manyFit n f (r .vals) ≡ true
 
 pub many-one : (n : ℕ) (f s : List ℕ) (at : ℕ) → all-bytes f ≡ true → at ≤ length s → manyAt n f s at .ok ≡ true → RowsRead n f s at (manyAt n f s at)
-unfolding manyAt rowsText okRows
+unfolding manyAt rowsText manyFit
 many-one zero f s at b l e = record { text = sym (append-nil (take at s)); low = omega arith; room = l; fits = refl }
 many-one (suc n) f s at b l e = go (formAt f s at .ok) refl e (many-one n f s (formAt f s at .next) b)
   where
@@ -44,7 +44,7 @@ many-one (suc n) f s at b l e = go (formAt f s at .ok) refl e (many-one n f s (f
               (r .text ∙ ap (λ (x : List ℕ). x ++ rowsText n f (m .vals)) (q .text) ∙ append-assoc (take at s) (formText f (o .vals)) (rowsText n f (m .vals)));
           low = omega (arith, q .low, r .low);
           room = r .room;
-          fits = rw (take-at (o .vals) (m .vals) (marks f) w, drop-at (o .vals) (m .vals) (marks f) w) (and-i (okVals f (o .vals)) (okRows n f (m .vals)) (q .fits) (r .fits));
+          fits = rw (← fits-take f (o .vals ++ m .vals), take-at (o .vals) (m .vals) (marks f) w, drop-at (o .vals) (m .vals) (marks f) w) (and-i (fits f (o .vals)) (manyFit n f (m .vals)) (q .fits) (r .fits));
         }
     go false k e ih = absurd (false≢true e)
 
@@ -60,18 +60,21 @@ rows-parted f q h g (suc n) vs =
 
 -- between the rows and behind them stands no digit where the form ends in a value
 pub many-back : (f : List ℕ) (q : List ℕ) → ((vs : List ℤ) (x : List ℕ) → parted f (formText f vs ++ x) ≡ true) → parted f q ≡ true
-    → (n : ℕ) (vs : List ℤ) (p : List ℕ) → okRows n f vs ≡ true → manyAt n f (p ++ (rowsText n f vs ++ q)) (length p) ≡ ran n (length p + length (rowsText n f vs)) vs
-unfolding manyAt rowsText okRows
-many-back f q h g zero [] p e = rw (add-zero (length p))
-many-back f q h g zero (z ∷ zs) p e = absurd (false≢true e)
-many-back f q h g (suc n) vs p e =
+    → (n : ℕ) (vs : List ℤ) (p : List ℕ) → length vs ≡ n * marks f → manyFit n f vs ≡ true
+    → manyAt n f (p ++ (rowsText n f vs ++ q)) (length p) ≡ ran n (length p + length (rowsText n f vs)) vs
+unfolding manyAt rowsText manyFit
+many-back f q h g zero [] p l e = rw (add-zero (length p))
+many-back f q h g zero (z ∷ zs) p l e = absurd (omega arith)
+many-back f q h g (suc n) vs p l e =
     let w : ℕ = marks f in
     let a : List ℤ = take w vs in
     let b : List ℤ = drop w vs in
-    let ea : okVals f a ≡ true = and-1 (okVals f a) (okRows n f b) e in
-    let eb : okRows n f b ≡ true = and-2 (okVals f a) (okRows n f b) e in
-    let r = many-back f q h g n b (p ++ formText f a) eb in
-    let k = form-back f a p (rowsText n f b ++ q) ea (rows-parted f q h g n b) in
+    let ea : fits f a ≡ true = fits-take f vs ∙ and-1 (fits f vs) (manyFit n f b) e in
+    let eb : manyFit n f b ≡ true = and-2 (fits f vs) (manyFit n f b) e in
+    let la : length a ≡ marks f = length-take-le (marks f) vs (omega arith) in
+    let lb : length b ≡ n * marks f = length-drop (marks f) vs ∙ omega arith in
+    let r = many-back f q h g n b (p ++ formText f a) lb eb in
+    let k = form-back f a p (rowsText n f b ++ q) la ea (rows-parted f q h g n b) in
     let r1 = rw (append-assoc p (formText f a) (rowsText n f b ++ q), length-append p (formText f a), add-assoc (length p) (length (formText f a)) (length (rowsText n f b))) at r in
     rw (append-assoc (formText f a) (rowsText n f b) q, k, length-append (formText f a) (rowsText n f b))
     (ap (onto a) r1 ∙ ap (ran (suc n) (length p + (length (formText f a) + length (rowsText n f b)))) (take-append-drop w vs))
@@ -87,25 +90,32 @@ rows-stops f h (suc n) vs q g =
 
 -- ---- which values rows can carry
 -- values of rows of a form with no signed value are natural numbers of 32 bits
-pub rows-words : (n : ℕ) (f : List ℕ) (vs : List ℤ) → plain f ≡ true → okRows n f vs ≡ true → map unword vs ≡ vs
-unfolding okRows
-rows-words zero f [] p o = refl
-rows-words zero f (z ∷ zs) p o = absurd (false≢true o)
-rows-words (suc n) f vs p o =
+pub rows-words : (n : ℕ) (f : List ℕ) (vs : List ℤ) → plain f ≡ true → length vs ≡ n * marks f → manyFit n f vs ≡ true → map unword vs ≡ vs
+unfolding manyFit
+rows-words zero f [] p l o = refl
+rows-words zero f (z ∷ zs) p l o = absurd (omega arith)
+rows-words (suc n) f vs p l o =
     let a : List ℤ = take (marks f) vs in
     let b : List ℤ = drop (marks f) vs in
-    let x : map unword a ≡ a = ok-words f a p (and-1 (okVals f a) (okRows n f b) o) in
-    let y : map unword b ≡ b = rows-words n f b p (and-2 (okVals f a) (okRows n f b) o) in
+    let la : length a ≡ marks f = length-take-le (marks f) vs (omega arith) in
+    let lb : length b ≡ n * marks f = length-drop (marks f) vs ∙ omega arith in
+    let x : map unword a ≡ a = ok-words f a p la (fits-take f vs ∙ and-1 (fits f vs) (manyFit n f b) o) in
+    let y : map unword b ≡ b = rows-words n f b p lb (and-2 (fits f vs) (manyFit n f b) o) in
     let e : a ++ b ≡ vs = take-append-drop (marks f) vs in
     ap (map unword) (sym e) ∙ map-append unword a b ∙ rw (x, y) e
 
--- and rows of one such value each carry any of them
-pub rows-small : (f : List ℕ) → plain f ≡ true → marks f ≡ 1 → (vs : List ℤ) → allSmall vs ≡ true → okRows (length vs) f vs ≡ true
-unfolding okRows
-rows-small f p m [] e = refl
-rows-small f p m (z ∷ vs) e =
-    let k : okVals f (z ∷ []) ≡ true = small-oks f (z ∷ []) p (and-i (smallZ z) true (and-1 (smallZ z) (allSmall vs) e) refl) (sym m) in
-    rw m (and-i (okVals f (z ∷ [])) (okRows (length vs) f vs) k (rows-small f p m vs (and-2 (smallZ z) (allSmall vs) e)))
+-- and such rows carry any of them
+small-drop : (k : ℕ) (vs : List ℤ) → allSmall vs ≡ true → allSmall (drop k vs) ≡ true
+small-drop zero vs o = o
+small-drop (suc k) [] o = refl
+small-drop (suc k) (z ∷ zs) o = small-drop k zs (and-2 (smallZ z) (allSmall zs) o)
+
+pub rows-small : (n : ℕ) (f : List ℕ) (vs : List ℤ) → plain f ≡ true → allSmall vs ≡ true → manyFit n f vs ≡ true
+unfolding manyFit
+rows-small zero f vs p o = refl
+rows-small (suc n) f vs p o =
+    let b : List ℤ = drop (marks f) vs in
+    and-i (fits f vs) (manyFit n f b) (small-oks f vs p o) (rows-small n f b p (small-drop (marks f) vs o))
 
 -- ---- writing rows
 
@@ -131,24 +141,6 @@ rows-more n k j w f vs h q =
     let e : n - k ≡ suc (n - (k + 1)) = omega arith in
     rw (e, text-take f (drop j vs), q, drop-drop (marks f) j vs)
 
-pub fits-ok : (f : List ℕ) (vs : List ℤ) → marks f ≤ length vs → okVals f (take (marks f) vs) ≡ fits f vs
-unfolding fits okVals
-fits-ok [] vs h = refl
-fits-ok (c ∷ f) vs h = go (isMark c) refl vs h (fits-ok f)
-  where
-    go : (b : Bool) → isMark c ≡ b → (vs : List ℤ) → marks (c ∷ f) ≤ length vs → ((vs : List ℤ) → marks f ≤ length vs → okVals f (take (marks f) vs) ≡ fits f vs)
-        → okVals (c ∷ f) (take (marks (c ∷ f)) vs) ≡ fits (c ∷ f) vs
-    go true m [] h ih = absurd (let k : suc (marks f) ≤ 0 = rw m at h in omega arith)
-    go true m (z ∷ zs) h ih = let k : suc (marks f) ≤ suc (length zs) = rw m at h in rw (m, m, ih zs (omega arith))
-    go false m vs h ih = let k : marks f ≤ length vs = rw m at h in rw m (ok-lit c f (take (marks f) vs) m ∙ ih vs k)
-
-pub rows-fit : (n : ℕ) (f : List ℕ) (vs : List ℤ) → length vs ≡ n * marks f → okRows n f vs ≡ rowsFit n f vs
-unfolding okRows rowsFit
-rows-fit zero f [] h = refl
-rows-fit zero f (z ∷ zs) h = absurd (omega arith)
-rows-fit (suc n) f vs h =
-    rw (fits-ok f vs (omega arith), rows-fit n f (drop (marks f) vs) (length-drop (marks f) vs ∙ omega arith))
-
 -- rows use no more values than they have
 pub rows-front : (n : ℕ) (f : List ℕ) (a b : List ℤ) → length a ≡ n * marks f → rowsText n f (a ++ b) ≡ rowsText n f a
 unfolding rowsText
@@ -159,13 +151,3 @@ rows-front (suc n) f a b h =
       drop-append-le (marks f) a b (omega arith),
       rows-front n f (drop (marks f) a) b (length-drop (marks f) a ∙ omega arith),
     )
-
--- no more rows are good than were asked for
-pub good-most : (n : ℕ) (f s : List ℕ) (at : ℕ) → manyAt n f s at .good ≤ n
-unfolding manyAt
-good-most zero f s at = omega arith
-good-most (suc n) f s at = go (formAt f s at .ok) refl (good-most n f s (formAt f s at .next))
-  where
-    go : (b : Bool) → formAt f s at .ok ≡ b → manyAt n f s (formAt f s at .next) .good ≤ n → manyAt (suc n) f s at .good ≤ suc n
-    go true e ih = rw e (omega arith)
-    go false e ih = rw e (omega arith)

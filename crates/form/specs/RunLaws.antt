@@ -50,10 +50,11 @@ rows-less n k w h =
     let e : n - k ≡ suc (n - (k + 1)) = omega arith in
     rw e (omega arith)
 
-pub many-good : (n : ℕ) (f s : List ℕ) (at : ℕ) → manyAt n f s at .good ≤ n
+-- no more rows are good than were asked for
+pub good-most : (n : ℕ) (f s : List ℕ) (at : ℕ) → manyAt n f s at .good ≤ n
 unfolding manyAt
-many-good zero f s at = omega arith
-many-good (suc n) f s at = go (formAt f s at .ok) (many-good n f s (formAt f s at .next))
+good-most zero f s at = omega arith
+good-most (suc n) f s at = go (formAt f s at .ok) (good-most n f s (formAt f s at .next))
   where
     go : (b : Bool) → manyAt n f s (formAt f s at .next) .good ≤ n
         → cond b (onto (formAt f s at .vals) (manyAt n f s (formAt f s at .next))) (record { ok = false; next = 0; good = 0; vals = formAt f s at .vals }) .good ≤ suc n
@@ -73,4 +74,4 @@ many-length (suc n) f s at e = go (formAt f s at .ok) refl e (many-length n f s 
     go false o e ih = absurd (false≢true e)
 
 pub ran-good : (n : ℕ) (f s : List ℕ) (at : ℕ) (m : Ran) → m ≡ ranOf (manyAt n f s at) 0 → m .good ≤ n
-ran-good n f s at m e = omega (arith, ap (λ (x : Ran). x .good) e, many-good n f s at)
+ran-good n f s at m e = omega (arith, ap (λ (x : Ran). x .good) e, good-most n f s at)

@@ -1,11 +1,10 @@
-// Decimal numbers, and numbers with a sign.
+// Decimal numbers, and a number with a sign from its size.
 ghost use mathlib.Core.Path.{_≡_};
 ghost use Prim.Native.Nat.{_+_, _-_, _*_, _^_, _≤_, _<_};
-ghost use lib.IntN.{pos, negsuc, natAbs};
+ghost use lib.IntN.{pos, negsuc};
 ghost use lib.ListN.{length};
 ghost use lib.Seq.{sets};
 ghost use Rattle.form.specs.Dec.{dec, numAt, digitOf};
-ghost use Rattle.form.specs.Signed.{isNeg};
 
 // What reading a number finds: its value and the place after it, or nothing well formed.
 pub enum Num {
@@ -14,7 +13,7 @@ pub enum Num {
 }
 
 // What a byte stands for as a digit; 10 where it is none.
-pub fn digit(c: u8) -> u64
+fn digit(c: u8) -> u64
     ensures { λ r. ⌜ r ≡ digitOf c ⌝ }
 {
     if c < 48 {
@@ -26,7 +25,7 @@ pub fn digit(c: u8) -> u64
     (c - 48) as u64
 }
 
-// The decimal number that starts at `at`, at most `max`.
+// The decimal number that starts at `at`, at most max, which is at least 9: one digit is never above it.
 pub fn number(s: &[u8], at: usize, max: u64) -> Num
     requires { ⌜ 9 ≤ max ⌝ }
     ensures { λ r. ⌜ r ≡ numAt max (now (s .entry)) at ⌝ }
@@ -80,7 +79,7 @@ pub fn put_dec(n: u64, buf: &mut [u8], at: usize) -> usize
     i + 1
 }
 
-// A number of i64 from its size, and its size again.
+// m as a signed number, and -m.
 pub fn plus(m: u64) -> i64
     requires { ⌜ m < 2 ^ 63 ⌝ }
     ensures { λ r. ⌜ r ≡ pos m ⌝ }
@@ -93,19 +92,4 @@ pub fn minus(m: u64) -> i64
     ensures { λ r. ⌜ r ≡ negsuc (m - 1) ⌝ }
 {
     -1 - ((m - 1) as i64)
-}
-
-pub fn size(z: i64) -> u64
-    ensures { λ r. ⌜ r ≡ natAbs z ⌝ }
-{
-    if z < 0 {
-        return ((-1 - z) as u64) + 1;
-    }
-    z as u64
-}
-
-pub fn negative(z: i64) -> bool
-    ensures { λ r. ⌜ r ≡ isNeg z ⌝ }
-{
-    z < 0
 }

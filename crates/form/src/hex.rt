@@ -7,7 +7,7 @@ ghost use Rattle.form.specs.Hex.{hex, hexAt, hexOf, hexByte};
 use crate::decimal::Num;
 
 // What a byte stands for as a lowercase hex digit; 16 where it is none.
-pub fn hex_digit(c: u8) -> u64
+fn hex_digit(c: u8) -> u64
     ensures { λ r. ⌜ r ≡ hexOf c ⌝ }
 {
     if c < 48 {
@@ -26,7 +26,7 @@ pub fn hex_digit(c: u8) -> u64
 }
 
 // The byte of a hex digit.
-pub fn hex_byte(d: u64) -> u8
+fn hex_byte(d: u64) -> u8
     requires { ⌜ d < 16 ⌝ }
     ensures { λ r. ⌜ r ≡ hexByte d ⌝ }
 {

@@ -5,13 +5,13 @@ ghost use lib.ListN.{length, drop};
 ghost use lib.Seq.{sets};
 ghost use Rattle.form.specs.Form.{formAt, takenOf, marks, formText, fits};
 use crate::value::Val;
-use crate::value::byte_at;
 use crate::value::is_mark;
 use crate::value::put_value;
 use crate::value::value;
 use crate::value::value_fits;
 use crate::value::value_len;
 use crate::value::wide;
+use crate::words::byte_at;
 
 // Whether a form stood at a place, and the place after it.
 pub struct Taken {
@@ -100,7 +100,7 @@ pub fn put_form(f: &[u8], vals: &[i64], first: usize, buf: &mut [u8], from: usiz
 }
 
 // Whether the values of vals from `first` on fit the form f.
-pub fn form_fits(f: &[u8], vals: &[i64], first: usize) -> bool
+pub(crate) fn form_fits(f: &[u8], vals: &[i64], first: usize) -> bool
     requires { ⌜ first + marks (now f) ≤ length (now vals) ⌝ }
     ensures { λ r. ⌜ r ≡ fits (now (f .entry)) (drop first (now (vals .entry))) ⌝ }
 {

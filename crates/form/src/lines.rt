@@ -4,7 +4,7 @@ ghost use Prim.Native.Nat.{_+_, _*_, _≤_, _<_};
 ghost use lib.ListN.{length, drop};
 ghost use lib.Seq.{sets};
 ghost use Rattle.form.specs.Form.{marks};
-ghost use Rattle.form.specs.Many.{manyAt, ranOf, rowsText, rowsFit};
+ghost use Rattle.form.specs.Many.{manyAt, ranOf, rowsText, manyFit};
 use crate::line::form_fits;
 use crate::line::form_len;
 use crate::line::put_form;
@@ -127,9 +127,9 @@ pub fn put_many(
 }
 
 // Whether the values of vals from `first` on fit n rows of the form f, which has w values.
-pub fn rows_fit(f: &[u8], w: usize, n: usize, vals: &[i64], first: usize) -> bool
+pub fn many_fit(f: &[u8], w: usize, n: usize, vals: &[i64], first: usize) -> bool
     requires { ⌜ (w ≡ marks (now f)) × (first + n * w ≤ length (now vals)) ⌝ }
-    ensures { λ r. ⌜ r ≡ rowsFit n (now (f .entry)) (drop first (now (vals .entry))) ⌝ }
+    ensures { λ r. ⌜ r ≡ manyFit n (now (f .entry)) (drop first (now (vals .entry))) ⌝ }
 {
     let mut j = first;
     let mut k = 0;

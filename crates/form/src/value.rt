@@ -1,21 +1,20 @@
 // One value of a line, by its mark: # a decimal of 32 bits, $ a signed decimal of 64, % eight hex digits.
 ghost use mathlib.Core.Path.{_≡_};
 ghost use Prim.Native.Nat.{_+_, _≤_, _<_};
-ghost use lib.IntN.{pos};
-ghost use lib.ListN.{length, getD};
+ghost use lib.ListN.{length};
 ghost use lib.Seq.{sets};
-ghost use Rattle.form.specs.Form.{byteAt, posOf, negOf, valAt, valText, isMark, AtMost, fits, okVal};
-ghost use Rattle.form.specs.Words.{wordOf};
+ghost use Rattle.form.specs.Form.{posOf, negOf, valAt, valText, isMark, AtMost, okVal};
 use crate::decimal::Num;
 use crate::decimal::dec_len;
 use crate::decimal::minus;
-use crate::decimal::negative;
 use crate::decimal::number;
 use crate::decimal::plus;
 use crate::decimal::put_dec;
-use crate::decimal::size;
 use crate::hex::hex_number;
 use crate::hex::put_hex;
+use crate::words::byte_at;
+use crate::words::negative;
+use crate::words::size;
 
 // What reading a value finds.
 pub enum Val {
@@ -23,17 +22,7 @@ pub enum Val {
     Not,
 }
 
-// The byte at `at`; 256 past the end.
-pub fn byte_at(s: &[u8], at: usize) -> u64
-    ensures { λ r. ⌜ r ≡ byteAt (now (s .entry)) at ⌝ }
-{
-    if s.len() <= at {
-        return 256;
-    }
-    s[at] as u64
-}
-
-pub fn up(n: Num) -> Val
+fn up(n: Num) -> Val
     requires { ⌜ AtMost 9223372036854775807 n ⌝ }
     ensures { λ r. ⌜ r ≡ posOf n ⌝ }
 {
@@ -43,7 +32,7 @@ pub fn up(n: Num) -> Val
     }
 }
 
-pub fn down(n: Num) -> Val
+fn down(n: Num) -> Val
     requires { ⌜ AtMost 9223372036854775808 n ⌝ }
     ensures { λ r. ⌜ r ≡ negOf n ⌝ }
 {
@@ -116,28 +105,6 @@ pub fn put_value(c: u8, z: i64, buf: &mut [u8], at: usize) -> usize
         return put_dec(size(z), buf, at + 1);
     }
     put_dec(size(z), buf, at)
-}
-
-// What a value that fits 32 bits is; 0 otherwise.
-pub fn word(z: i64) -> u32
-    ensures { λ r. ⌜ r ≡ wordOf z ⌝ }
-{
-    let n = size(z);
-    if negative(z) {
-        return 0;
-    }
-    if 4294967295 < n {
-        return 0;
-    }
-    n as u32
-}
-
-// What the value at i is as 32 bits.
-pub fn word_at(v: &[i64], i: usize) -> u32
-    requires { ⌜ i < length (now v) ⌝ }
-    ensures { λ r. ⌜ r ≡ wordOf (getD (now (v .entry)) i (pos 0)) ⌝ }
-{
-    word(v[i])
 }
 
 // Whether a value fits its mark.

@@ -3,5 +3,5 @@ pub mod Copies
 pub mod Signs
 pub mod Added
 pub mod Printable
-pub mod Lines
+pub mod Shaped
 pub mod Settled

@@ -22,8 +22,8 @@ use Rattle.text.specs.Readings.{carried}
 abbrev pub cardWidth : ℕ
 cardWidth = 32
 
-unfoldable pub cardOf : List ℕ → Card
-cardOf l = record { cells = getD l 0 0; delays = getD l 1 0; depths = drop 2 l }
+unfoldable pub cardFrom : List ℕ → Card
+cardFrom l = record { cells = getD l 0 0; delays = getD l 1 0; depths = drop 2 l }
 
 unfoldable pub cardNumbers : Card → List ℕ
 cardNumbers c = c .cells ∷ c .delays ∷ c .depths
@@ -32,8 +32,8 @@ cardNumbers c = c .cells ∷ c .delays ∷ c .depths
 abbrev pub readingWidth : ℕ
 readingWidth = 10
 
-unfoldable pub readingOf : List ℕ → Reading
-readingOf l =
+unfoldable pub readingFrom : List ℕ → Reading
+readingFrom l =
     record {
       cell = getD l 0 0;
       life = getD l 1 0;

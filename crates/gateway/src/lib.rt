@@ -1,6 +1,6 @@
 // The static library of a gateway: the calls that a host in C or Rust makes. include/waterbook.h says what each number means.
 ghost use mathlib.Core.Path.{_≡_};
-ghost use Rattle.gateway.specs.Calls.{StepGives, ClearGives, AddGives, ReadsCard, ReadsReading, WritesCard, WritesReading, WritesAnswer, WritesSheet};
+ghost use Rattle.gateway.specs.Calls.{Steps, Clears, Adds, ReadsCard, ReadsReading, WritesCard, WritesReading, WritesAnswer, WritesSheet};
 ghost use Rattle.journal.specs.Book.{BookGives};
 use cell::Answer;
 
@@ -15,7 +15,7 @@ pub extern "C" fn waterbook_step(
     reading: &[u32],
     amounts: &mut [i64],
 ) -> u32
-    ensures { λ n. ⌜ StepGives (now (card .entry)) (now (soil .entry)) (now (rows .entry)) (now (reading .entry)) (now (amounts .entry)) n (now (rows .exit)) (now (amounts .exit)) ⌝ }
+    ensures { λ n. ⌜ Steps (now (card .entry)) (now (soil .entry)) (now (rows .entry)) (now (reading .entry)) (now (amounts .entry)) n (now (rows .exit)) (now (amounts .exit)) ⌝ }
 {
     if card.len() != 32 {
         return 255;
@@ -27,10 +27,10 @@ pub extern "C" fn waterbook_step(
         return 255;
     }
     let answer = site::step(
-        shapes::card_of(card),
+        shapes::card_from(card),
         soil,
         rows,
-        shapes::reading_of(reading),
+        shapes::reading_from(reading),
     );
     shapes::put_amounts(cell::amounts_of(answer), amounts);
     cell::number_of(answer)
@@ -39,18 +39,18 @@ pub extern "C" fn waterbook_step(
 // Sets all rows of the site to 0.
 #[no_mangle]
 pub extern "C" fn waterbook_clear(card: &[u32], rows: &mut [u32]) -> u32
-    ensures { λ n. ⌜ ClearGives (now (card .entry)) (now (rows .entry)) n (now (rows .exit)) ⌝ }
+    ensures { λ n. ⌜ Clears (now (card .entry)) (now (rows .entry)) n (now (rows .exit)) ⌝ }
 {
     if card.len() != 32 {
         return 255;
     }
-    site::clear(shapes::card_of(card), rows)
+    site::clear(shapes::card_from(card), rows)
 }
 
 // Adds an answer, its number and its amounts, to a sheet.
 #[no_mangle]
 pub extern "C" fn waterbook_add(sheet: &mut [i64], number: u32, amounts: &[i64]) -> u32
-    ensures { λ n. ⌜ AddGives (now (sheet .entry)) number (now (amounts .entry)) n (now (sheet .exit)) ⌝ }
+    ensures { λ n. ⌜ Adds (now (sheet .entry)) number (now (amounts .entry)) n (now (sheet .exit)) ⌝ }
 {
     if sheet.len() != 10 {
         return 255;
@@ -114,7 +114,7 @@ pub extern "C" fn waterbook_write_card(
     if got.len() != 2 {
         return 255;
     }
-    let w = text::card::write(shapes::card_of(card), soil, buf);
+    let w = text::card::write(shapes::card_from(card), soil, buf);
     got[0] = w.len;
     got[1] = 0;
     w.number
@@ -149,7 +149,7 @@ pub extern "C" fn waterbook_write_reading(reading: &[u32], buf: &mut [u8], got: 
     if got.len() != 2 {
         return 255;
     }
-    let w = text::reading::write(shapes::reading_of(reading), buf);
+    let w = text::reading::write(shapes::reading_from(reading), buf);
     got[0] = w.len;
     got[1] = 0;
     w.number

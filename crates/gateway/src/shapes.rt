@@ -6,16 +6,16 @@ ghost use lib.ListN.{length, getD};
 ghost use mir.Syntax.{w64};
 ghost use mir.Val.{SFits};
 ghost use Rattle.form.specs.Signed.{isNeg};
-ghost use Rattle.site.specs.SheetLaws.{AmountsWithin, Kept};
-ghost use Rattle.gateway.specs.Shapes.{cardOf, cardNumbers, readingOf, readingNumbers, amountNumbers, amountsFrom, sheetNumbers, sheetFrom, signsFrom, zeros, AllFit};
+ghost use Rattle.site.specs.SheetLaws.{AmountsWithin, SheetIn};
+ghost use Rattle.gateway.specs.Shapes.{cardFrom, cardNumbers, readingFrom, readingNumbers, amountNumbers, amountsFrom, sheetNumbers, sheetFrom, signsFrom, zeros, AllFit};
 ghost use Rattle.gateway.specs.Calls.{isAnswer};
 use cell::Amounts;
 use cell::Card;
 use cell::Net;
 use cell::Reading;
 use cell::Water;
-use form::decimal::negative;
-use form::decimal::size;
+use form::words::negative;
+use form::words::size;
 use head::Carried;
 use site::Sheet;
 
@@ -48,9 +48,9 @@ fn negative_at(l: &[i64], i: usize) -> bool
     negative(l[i])
 }
 
-pub fn card_of(l: &[u32]) -> Card
+pub fn card_from(l: &[u32]) -> Card
     requires { ⌜ length (now l) ≡ 32 ⌝ }
-    ensures { λ r. ⌜ r ≡ cardOf (now (l .entry)) ⌝ }
+    ensures { λ r. ⌜ r ≡ cardFrom (now (l .entry)) ⌝ }
 {
     let mut depths = [0u32; 30];
     let mut k: usize = 0;
@@ -79,9 +79,9 @@ pub fn put_card(c: Card, out: &mut [u32])
     }
 }
 
-pub fn reading_of(l: &[u32]) -> Reading
+pub fn reading_from(l: &[u32]) -> Reading
     requires { ⌜ length (now l) ≡ 10 ⌝ }
-    ensures { λ r. ⌜ r ≡ readingOf (now (l .entry)) ⌝ }
+    ensures { λ r. ⌜ r ≡ readingFrom (now (l .entry)) ⌝ }
 {
     let h = head::from_pattern(l[9]);
     Reading {
@@ -153,7 +153,7 @@ pub fn amounts_from(l: &[i64]) -> Amounts
 }
 
 pub fn put_sheet(s: Sheet, out: &mut [i64])
-    requires { ⌜ Kept s × (length (now out) ≡ 10) ⌝ }
+    requires { ⌜ SheetIn s × (length (now out) ≡ 10) ⌝ }
     ensures { λ _. ⌜ now (out .exit) ≡ sheetNumbers s ⌝ }
 {
     out[0] = s.steps as i64;

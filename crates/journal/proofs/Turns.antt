@@ -13,7 +13,7 @@ use Rattle.site.specs.declared.Sheet.{Sheet}
 use Rattle.site.specs.declared.Added.{Added}
 use Rattle.site.specs.Site.{siteAnswer, siteRows}
 use Rattle.site.specs.Sheet.{noSteps, addedOf}
-use Rattle.site.specs.SheetLaws.{Kept, kept-none, kept-added}
+use Rattle.site.specs.SheetLaws.{SheetIn, sheet-none, sheet-added}
 use Rattle.text.specs.declared.reading.ReadingRead.{ReadingRead}
 use Rattle.text.specs.Readings.{readReading}
 use Rattle.text.specs.LineLaws.{reading-takes}
@@ -31,7 +31,7 @@ module _ (card : Card) (soil : List ℤ) (s : List ℕ) (whole out₀ : List ℕ
     pub sum : end + length (readingsText left card soil rows sheet line (drop at s)) ≡ length whole
     pub put : sets out end (readingsText left card soil rows sheet line (drop at s)) ≡ sets out₀ 0 whole
     pub same : length out ≡ length out₀
-    pub kept : Kept sheet
+    pub kept : SheetIn sheet
 
   module _ (rows out : List ℕ) (sheet : Sheet) (at line end : ℕ) (i : Inv rows out sheet at line end) where
     -- the last line
@@ -100,7 +100,7 @@ module _ (card : Card) (soil : List ℤ) (s : List ℕ) (whole out₀ : List ℕ
               sum = rw (r, d, e) (omega (arith, lengths));
               put = rw (r, d) (sets-step out end (answerText (x .reading .cell) answer) after o e more ∙ i .put);
               same = l ∙ i .same;
-              kept = rw d (kept-added sheet answer (i .kept));
+              kept = rw d (sheet-added sheet answer (i .kept));
             }
 
 -- before the first
@@ -114,5 +114,5 @@ begin card soil s rows out first =
       sum = omega arith;
       put = refl;
       same = refl;
-      kept = kept-none;
+      kept = sheet-none;
     }

@@ -1,5 +1,5 @@
 -- Everything that `waterbook` prints, for every input. Definitions only.
-use Prim.Native.Nat.{ℕ, zero, suc, _+_, _*_}
+use Prim.Native.Nat.{ℕ, _+_, _*_}
 use mathlib.Core.Path.{_≡_}
 use mathlib.Core.Bool.{cond}
 use mathlib.Core.List.{List, [], _∷_, _++_}
@@ -10,11 +10,11 @@ use Rattle.form.specs.Bytes.{bytes}
 use Rattle.form.specs.Form.{formText}
 use Rattle.cell.specs.declared.Card.{Card}
 use Rattle.site.specs.declared.Sheet.{Sheet}
-use Rattle.site.specs.Site.{rowWidth, siteAnswer, siteRows, clearNumber, clearRows}
-use Rattle.site.specs.Sheet.{noSteps, addedOf}
-use Rattle.text.specs.Readings.{readReading}
+use Rattle.site.specs.Site.{rowWidth, clearNumber, clearRows}
+use Rattle.site.specs.Sheet.{noSteps, afterAll}
 use Rattle.text.specs.Cards.{parse}
-use Rattle.text.specs.Printed.{answerText, sheetText}
+use Rattle.text.specs.Printed.{sheetText}
+use Rattle.journal.specs.Entries.{readingsIn, entriesOf, answersOf, linesText}
 
 -- ---- the lines that stand for a refusal
 abbrev pub codeForm : List ℕ
@@ -30,16 +30,12 @@ unfoldable pub malformedText : ℕ → List ℕ
 malformedText line = formText malformedForm (pos line ∷ [])
 
 -- ---- the readings
--- a line per reading, then the sheet; `line` is the number of the line that stands first in s. At a malformed one its number, and nothing after it.
--- Each reading takes a byte or more, so n = length s readings are enough.
+-- a line per reading, then the sheet; at a malformed line its number, and no sheet. `line` is the number of the line that stands first in s
 unfoldable pub readingsText : ℕ → Card → List ℤ → List ℕ → Sheet → ℕ → List ℕ → List ℕ
-readingsText zero card soil rows sheet line s = sheetText sheet
-readingsText (suc n) card soil rows sheet line s =
-    let x = readReading s in
-    let answer = siteAnswer card soil rows (x .reading) in
-    let more = readingsText n card soil (siteRows card soil rows (x .reading)) (addedOf sheet answer .sheet) (suc line) (drop (x .taken) s) in
-    let one = cond (eqb (x .number) 0) (answerText (x .reading .cell) answer ++ more) (malformedText line) in
-    cond (eqb (length s) 0) (sheetText sheet) one
+readingsText n card soil rows sheet line s =
+    let read = readingsIn n s in
+    let entries = entriesOf card soil rows (read .readings) in
+    linesText entries ++ cond (read .wellFormed) (sheetText (afterAll sheet (answersOf entries))) (malformedText (line + length entries))
 
 -- ---- the book
 -- no row is stored before the site is cleared

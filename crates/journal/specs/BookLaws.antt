@@ -1,10 +1,11 @@
 -- How much the program prints at the most. Assumes nothing.
 use mathlib.Core.Path.{_≡_, refl, _∙_}
 use mathlib.Core.Bool.{Bool, true, false}
-use mathlib.Core.List.{List, _++_}
+use mathlib.Core.List.{List, _++_, append-assoc}
 use Prim.Native.Nat.{ℕ, zero, suc, _+_, _-_, _*_, _≤_, _<_, _^_}
+use native.Mathlib.Nat.{add-zero}
 use native.Mathlib.Omega.{arith}
-use borrow.Author.Tests.{eqb-true, leb-true, ltb-false, eq-eqb, ne-eqb, lt-ltb, le-ltb}
+use borrow.Author.Tests.{eqb-true, eqb-false, leb-true, ltb-false, eq-eqb, ne-eqb, lt-ltb, le-ltb}
 use lib.Dec.{eqb, leb, ltb}
 use lib.IntN.{ℤ}
 use lib.ListN.{length, drop, length-append, length-drop}
@@ -15,13 +16,14 @@ use Rattle.site.specs.declared.Sheet.{Sheet}
 use Rattle.site.specs.Site.{siteAnswer, siteRows, clearNumber, clearRows}
 use Rattle.site.specs.SiteLaws.{clear-most}
 use Rattle.site.specs.Sheet.{noSteps, addedOf}
-use Rattle.site.specs.SheetLaws.{Kept, kept-none, kept-added, site-within}
+use Rattle.site.specs.SheetLaws.{SheetIn, sheet-none, sheet-added, site-within}
 use Rattle.text.specs.declared.reading.ReadingRead.{ReadingRead}
 use Rattle.text.specs.Readings.{readReading}
 use Rattle.text.specs.Cards.{Parsed, parse}
 use Rattle.text.specs.CardTexts.{line-most, cells-most}
 use Rattle.text.specs.LineLaws.{reading-takes, reading-cell, answer-most, sheet-most}
 use Rattle.text.specs.Printed.{answerText, sheetText}
+use Rattle.journal.specs.Entries.{Entry, readingsIn, entriesOf, linesText}
 use Rattle.journal.specs.Book.{codeForm, codeText, malformedForm, malformedText, readingsText, freshRows, clearedText, inputLimit, bookOf, roomFor, BookGives}
 
 -- a line that stands for a refusal
@@ -35,36 +37,36 @@ code-most number h = text-most codeForm _ (h, tt)
 
 -- ---- the text of the readings, by what stands first in s
 pub readings-end : (n : ℕ) (card : Card) (soil : List ℤ) (rows : List ℕ) (sheet : Sheet) (line : ℕ) (s : List ℕ) → length s ≡ 0 → readingsText n card soil rows sheet line s ≡ sheetText sheet
-unfolding readingsText
+unfolding readingsText readingsIn entriesOf
 readings-end zero card soil rows sheet line s e = refl
 readings-end (suc n) card soil rows sheet line s e = rw (eq-eqb (length s) 0 e)
 
 pub readings-stop : (n : ℕ) (card : Card) (soil : List ℤ) (rows : List ℕ) (sheet : Sheet) (line : ℕ) (s : List ℕ) → 0 < length s → length s ≤ n → ¬ (readReading s .number ≡ 0)
     → readingsText n card soil rows sheet line s ≡ malformedText line
-unfolding readingsText
+unfolding readingsText readingsIn entriesOf
 readings-stop zero card soil rows sheet line s h l e = absurd (omega arith)
-readings-stop (suc n) card soil rows sheet line s h l e = rw (ne-eqb (length s) 0 (λ z. omega arith), ne-eqb (readReading s .number) 0 e)
+readings-stop (suc n) card soil rows sheet line s h l e = rw (ne-eqb (length s) 0 (λ z. omega arith), ne-eqb (readReading s .number) 0 e, add-zero line)
 
 pub readings-more : (n : ℕ) (card : Card) (soil : List ℤ) (rows : List ℕ) (sheet : Sheet) (line : ℕ) (s : List ℕ) → 0 < length s → length s ≤ n → readReading s .number ≡ 0
     → readingsText n card soil rows sheet line s
     ≡ answerText (readReading s .reading .cell) (siteAnswer card soil rows (readReading s .reading))
     ++ readingsText (n - 1) card soil (siteRows card soil rows (readReading s .reading)) (addedOf sheet (siteAnswer card soil rows (readReading s .reading)) .sheet) (line + 1) (drop (readReading s .taken) s)
-unfolding readingsText
+unfolding readingsText readingsIn entriesOf
 readings-more zero card soil rows sheet line s h l e = absurd (omega arith)
 readings-more (suc n) card soil rows sheet line s h l e =
+    let x = readReading s in
+    let later : List Entry = entriesOf card soil (siteRows card soil rows (x .reading)) (readingsIn n (drop (x .taken) s) .readings) in
     let m : suc n - 1 ≡ n = omega arith in
-    let k : line + 1 ≡ suc line = omega arith in
-    rw (ne-eqb (length s) 0 (λ z. omega arith), eq-eqb (readReading s .number) 0 e, m, k)
+    let k : line + suc (length later) ≡ line + 1 + length later = omega arith in
+    rw (ne-eqb (length s) 0 (λ z. omega arith), eq-eqb (x .number) 0 e, m, k) (append-assoc (answerText (x .reading .cell) (siteAnswer card soil rows (x .reading))) (linesText later) _)
 
 -- the readings: 5 bytes for each byte of theirs, and the last line
-pub readings-most : (n : ℕ) (card : Card) (soil : List ℤ) (rows : List ℕ) (sheet : Sheet) (line : ℕ) (s : List ℕ) → Kept sheet → line + length s < 2 ^ 64
+pub readings-most : (n : ℕ) (card : Card) (soil : List ℤ) (rows : List ℕ) (sheet : Sheet) (line : ℕ) (s : List ℕ) → length s ≤ n → SheetIn sheet → line + length s < 2 ^ 64
     → length (readingsText n card soil rows sheet line s) ≤ 5 * length s + 300
-unfolding readingsText
-readings-most zero card soil rows sheet line s k l = omega (arith, sheet-most sheet k)
-readings-most (suc n) card soil rows sheet line s k l =
-    go (eqb (length s) 0) refl (eqb (readReading s .number) 0) refl
-    (readings-most n card soil (siteRows card soil rows (readReading s .reading)) (addedOf sheet (siteAnswer card soil rows (readReading s .reading)) .sheet) (suc line) (drop (readReading s .taken) s)
-    (kept-added sheet (siteAnswer card soil rows (readReading s .reading)) k))
+readings-most zero card soil rows sheet line s h k l = rw (readings-end zero card soil rows sheet line s (omega arith)) (omega (arith, sheet-most sheet k))
+readings-most (suc n) card soil rows sheet line s h k l =
+    go (eqb (length s) 0) refl (eqb (x .number) 0) refl
+    (readings-most n card soil (siteRows card soil rows (x .reading)) (addedOf sheet answer .sheet) (line + 1) (drop (x .taken) s))
   where
     x : ReadingRead
     x = readReading s
@@ -73,17 +75,22 @@ readings-most (suc n) card soil rows sheet line s k l =
     answer = siteAnswer card soil rows (x .reading)
 
     more : List ℕ
-    more = readingsText n card soil (siteRows card soil rows (x .reading)) (addedOf sheet answer .sheet) (suc line) (drop (x .taken) s)
+    more = readingsText n card soil (siteRows card soil rows (x .reading)) (addedOf sheet answer .sheet) (line + 1) (drop (x .taken) s)
 
-    go : (b : Bool) → eqb (length s) 0 ≡ b → (c : Bool) → eqb (x .number) 0 ≡ c → (suc line + length (drop (x .taken) s) < 2 ^ 64 → length more ≤ 5 * length (drop (x .taken) s) + 300)
+    go : (b : Bool) → eqb (length s) 0 ≡ b → (c : Bool) → eqb (x .number) 0 ≡ c
+        → (length (drop (x .taken) s) ≤ n → SheetIn (addedOf sheet answer .sheet) → line + 1 + length (drop (x .taken) s) < 2 ^ 64 → length more ≤ 5 * length (drop (x .taken) s) + 300)
         → length (readingsText (suc n) card soil rows sheet line s) ≤ 5 * length s + 300
-    go true e c f ih = rw e (omega (arith, sheet-most sheet k))
+    go true e c f ih = rw (readings-end (suc n) card soil rows sheet line s (eqb-true (length s) 0 e)) (omega (arith, sheet-most sheet k))
     go false e true f ih =
         let t = reading-takes s (eqb-true (x .number) 0 f) in
         let d = length-drop (x .taken) s in
         let a = answer-most (x .reading .cell) answer (reading-cell s) (site-within card soil rows (x .reading)) in
-        rw (e, f) (omega (arith, length-append (answerText (x .reading .cell) answer) more, t .0, t .1, d, a, ih (omega (arith, t .0, t .1, d))))
-    go false e false f ih = rw (e, f) (omega (arith, malformed-most line (omega arith)))
+        let m : suc n - 1 ≡ n = omega arith in
+        rw (readings-more (suc n) card soil rows sheet line s (omega (arith, t .0, t .1)) h (eqb-true (x .number) 0 f), m)
+        (omega (arith, length-append (answerText (x .reading .cell) answer) more, t .0, t .1, d, a, ih (omega (arith, t .0, t .1, d)) (sheet-added sheet answer k) (omega (arith, t .0, t .1, d))))
+    go false e false f ih =
+        let some : 0 < length s = omega (arith, eqb-false (length s) 0 e) in
+        rw (readings-stop (suc n) card soil rows sheet line s some h (eqb-false (x .number) 0 f)) (omega (arith, malformed-most line (omega arith)))
 
 -- ---- with the card read: what clearing refuses, or the readings
 pub cleared-code : (card : Card) (soil : List ℤ) (rows rest : List ℕ) → ¬ (clearNumber card rows ≡ 0) → clearedText card soil rows rest ≡ codeText (clearNumber card rows)
@@ -134,7 +141,7 @@ book-most s = go (ltb inputLimit (length s)) refl (eqb (p .line) 0) refl (eqb nu
         let d = length-drop (p .next) s in
         let m = cells-most s (eqb-true (p .line) 0 f) in
         let l = ltb-false inputLimit (length s) e in
-        rw (e, f, g) (omega (arith, d, readings-most (length rest) (p .card) (p .soil) (clearRows (p .card) rows) noSteps (p .card .cells + 2) rest kept-none (omega (arith, d, m, l))))
+        rw (e, f, g) (omega (arith, d, readings-most (length rest) (p .card) (p .soil) (clearRows (p .card) rows) noSteps (p .card .cells + 2) rest (omega arith) sheet-none (omega (arith, d, m, l))))
 
 -- ---- what the contract tells of the length: the book lies within the buffer
 pub within-buffer : (s b : List ℕ) (len : ℕ) (after : List ℕ) → BookGives s b len after → len ≤ length b

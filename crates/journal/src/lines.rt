@@ -4,7 +4,7 @@ ghost use Prim.Native.Nat.{_+_, _≤_, _<_, _^_};
 ghost use lib.ListN.{length};
 ghost use lib.Seq.{sets};
 ghost use Rattle.cell.specs.Refusals.{amountsOf};
-ghost use Rattle.site.specs.SheetLaws.{AmountsWithin, Kept};
+ghost use Rattle.site.specs.SheetLaws.{AmountsWithin, SheetIn};
 ghost use Rattle.text.specs.Printed.{answerText, sheetText};
 ghost use Rattle.journal.specs.Book.{codeText, malformedText};
 use cell::Answer;
@@ -44,7 +44,7 @@ pub fn put_answer(cell: u32, answer: Answer, out: &mut [u8], at: usize) -> usize
 
 // The line of the sheet.
 pub fn put_sheet(sheet: Sheet, out: &mut [u8], at: usize) -> usize
-    requires { ⌜ Kept sheet × (at + length (sheetText sheet) ≤ length (now out)) ⌝ }
+    requires { ⌜ SheetIn sheet × (at + length (sheetText sheet) ≤ length (now out)) ⌝ }
     ensures { λ r. ⌜ (r ≡ at + length (sheetText sheet)) × (now (out .exit) ≡ sets (now (out .entry)) at (sheetText sheet)) ⌝ }
 {
     let w = text::print::sheet(sheet, &mut out[at..]);

@@ -1,11 +1,13 @@
 -- The sheet: steps and nine sums, and what adding an answer gives. Definitions only.
 use Prim.Native.Nat.{ℕ, _+_, _*_}
 use mathlib.Core.Bool.{Bool, false, cond, _&&_}
+use mathlib.Core.List.{List, [], _∷_}
 use lib.Dec.{leb, ltb}
 use lib.IntN.{pos, natAbs, _+ℤ_}
 use Rattle.cell.specs.declared.Amounts.{Amounts}
 use Rattle.cell.specs.declared.Answer.{Answer}
 use Rattle.cell.specs.declared.Answer.the-variants.{Accepted, Refused}
+use Rattle.cell.specs.Refusals.{notAddable}
 use Rattle.cell.specs.Water.{water, net}
 use Rattle.site.specs.declared.Sheet.{Sheet}
 use Rattle.site.specs.declared.Added.{Added}
@@ -87,4 +89,9 @@ sheetBy s (Refused why) = s
 
 -- the new sheet and 0, or the sheet as it came and 11
 unfoldable pub addedOf : Sheet → Answer → Added
-addedOf s answer = cond (addable s answer) (record { sheet = sheetBy s answer; number = 0 }) (record { sheet = s; number = 11 })
+addedOf s answer = cond (addable s answer) (record { sheet = sheetBy s answer; number = 0 }) (record { sheet = s; number = notAddable })
+
+-- a sheet after answers, added one after the other
+abbrev pub afterAll : Sheet → List Answer → Sheet
+afterAll s [] = s
+afterAll s (x ∷ xs) = afterAll (addedOf s x .sheet) xs

@@ -15,14 +15,14 @@ use Rattle.cell.specs.declared.Reading.{Reading}
 use Rattle.cell.specs.declared.Refusal.{Refusal}
 use Rattle.cell.specs.Bounds.{abs-add}
 use Rattle.cell.specs.Conj.{told}
-use Rattle.cell.specs.Refusals.{amountsOf}
+use Rattle.cell.specs.Refusals.{notAddable, amountsOf}
 use Rattle.cell.specs.AnswerLaws.{AmountsIn, amounts-in}
 use Rattle.site.specs.declared.Sheet.{Sheet}
 use Rattle.site.specs.declared.Added.{Added}
 use Rattle.site.specs.Rows.{partAt}
 use Rattle.site.specs.Site.{soilWidth, rowWidth, siteAnswer}
 use Rattle.site.specs.SiteLaws.{row-answer}
-use Rattle.site.specs.Sheet.{noSteps, amountLimit, stepLimit, amountsFit, sumsWithin, addable, plusOf, sheetBy, addedOf}
+use Rattle.site.specs.Sheet.{noSteps, amountLimit, stepLimit, amountsFit, sumsWithin, addable, plusOf, sheetBy, addedOf, afterAll}
 
 -- ---- the parts of the tests
 pub record AmountsWithin (a : Amounts) : Type 0 where
@@ -140,15 +140,11 @@ pub added-taken : (s : Sheet) (a : Amounts) → Takes s a → addedOf s (Accepte
 unfolding addedOf sheetBy
 added-taken s a h = rw (takes-ok s a h)
 
-pub added-refused : (s : Sheet) (answer : Answer) → addable s answer ≡ false → addedOf s answer ≡ record { sheet = s; number = 11 }
+pub added-refused : (s : Sheet) (answer : Answer) → addable s answer ≡ false → addedOf s answer ≡ record { sheet = s; number = notAddable }
 unfolding addedOf
 added-refused s answer e = rw e
 
--- ---- any list of answers, added one after the other
-abbrev pub afterAll : Sheet → List Answer → Sheet
-afterAll s [] = s
-afterAll s (x ∷ xs) = afterAll (addedOf s x .sheet) xs
-
+-- ---- any list of answers
 -- how many of them are accepted, and the sum of an amount over those
 abbrev pub accepted : List Answer → ℕ
 accepted [] = 0
@@ -262,31 +258,31 @@ sums-hold s (Refused why ∷ xs) k w l =
     rw (none-added s (Refused why) (never-added s why)) (skipped s why xs (afterAll s xs) h)
 
 -- ---- a sheet that adding has made, whatever was added: at most 100,000,000 steps, and its sums within them
-pub record Kept (s : Sheet) : Type 0 where
+pub record SheetIn (s : Sheet) : Type 0 where
   pub steps : s .steps ≤ 100000000
   pub sums : SumsIn (s .steps) s
 
-pub kept-none : Kept noSteps
-kept-none =
+pub sheet-none : SheetIn noSteps
+sheet-none =
     record {
       steps = omega arith;
       sums = record { inflow = omega arith; runoff = omega arith; etvad = omega arith; etstor = omega arith; etsat = omega arith; drain = omega arith; release = omega arith; stored = omega arith; recharge = omega arith };
     }
 
-plus-kept : (s : Sheet) (a : Amounts) → Takes s a → Kept (plusOf s a)
-plus-kept s a t = record { steps = let h = steps-more s a 0 (omega (arith, t .steps)) in omega arith; sums = counted s a t }
+plus-in-steps : (s : Sheet) (a : Amounts) → Takes s a → SheetIn (plusOf s a)
+plus-in-steps s a t = record { steps = let h = steps-more s a 0 (omega (arith, t .steps)) in omega arith; sums = counted s a t }
 
-pub kept-added : (s : Sheet) (answer : Answer) → Kept s → Kept (addedOf s answer .sheet)
-kept-added s (Refused why) h = rw (none-added s (Refused why) (never-added s why)) h
-kept-added s (Accepted a) h = go (addable s (Accepted a)) refl
+pub sheet-added : (s : Sheet) (answer : Answer) → SheetIn s → SheetIn (addedOf s answer .sheet)
+sheet-added s (Refused why) h = rw (none-added s (Refused why) (never-added s why)) h
+sheet-added s (Accepted a) h = go (addable s (Accepted a)) refl
   where
-    go : (b : Bool) → addable s (Accepted a) ≡ b → Kept (addedOf s (Accepted a) .sheet)
-    go true e = let t = takes-in s a e in rw (added-taken s a t) (plus-kept s a t)
+    go : (b : Bool) → addable s (Accepted a) ≡ b → SheetIn (addedOf s (Accepted a) .sheet)
+    go true e = let t = takes-in s a e in rw (added-taken s a t) (plus-in-steps s a t)
     go false e = rw (none-added s (Accepted a) e) h
 
 -- from a sheet with no step on it
 pub from-none : (xs : List Answer) → AllWithin xs → accepted xs ≤ 100000000 → Holds noSteps xs (afterAll noSteps xs)
-from-none xs w l = sums-hold noSteps xs (kept-none .sums) w (omega arith)
+from-none xs w l = sums-hold noSteps xs (sheet-none .sums) w (omega arith)
 
 -- amounts of a step are within the limit
 pub step-within : (a : Amounts) → AmountsIn a → AmountsWithin a

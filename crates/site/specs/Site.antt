@@ -1,18 +1,20 @@
 -- A step of the site, and clearing. Definitions only.
 use Prim.Native.Nat.{ℕ, _*_}
 use mathlib.Core.Path.{_≡_}
-use mathlib.Core.Bool.{Bool, true, false, cond, _&&_}
-use mathlib.Core.List.{List}
+use mathlib.Core.Bool.{Bool, true, false, cond, not, _&&_}
+use mathlib.Core.List.{List, [], _∷_}
 use lib.Dec.{ltb, eqb}
 use lib.IntN.{ℤ}
 use lib.ListN.{length, replicate}
+use Rattle.head.specs.Class.{classOf}
 use Rattle.cell.specs.declared.Answer.{Answer}
 use Rattle.cell.specs.declared.Answer.the-variants.{Accepted, Refused}
 use Rattle.cell.specs.declared.Card.{Card}
 use Rattle.cell.specs.declared.Reading.{Reading}
 use Rattle.cell.specs.declared.Refusal.{Refusal}
 use Rattle.cell.specs.declared.Refusal.the-variants.{BadCard, BadLengths, BadCell}
-use Rattle.cell.specs.Ranges.{cardOk}
+use Rattle.cell.specs.Ranges.{cardOk, soilOk, rowOk, lifeOf, nextOf, fieldsOk}
+use Rattle.cell.specs.Refusals.{refusalNumber, firstFailing, numberOf, amountsOf, isOld, isGap, isUnusable, isInactive}
 use Rattle.cell.specs.Step.{answerOf, newRow}
 use Rattle.site.specs.Rows.{partAt, putAt}
 
@@ -33,6 +35,23 @@ rowsFit card rows = eqb (length rows) (rowWidth * card .cells)
 -- 3. the cell number is below cells
 unfoldable pub cellFits : Card → Reading → Bool
 cellFits card r = ltb (r .cell) (card .cells)
+
+-- the checks of a step, 1 to 10: the number of each, and whether it is passed
+unfoldable pub checksOf : Card → List ℤ → List ℕ → Reading → List (ℕ × Bool)
+checksOf card soil rows r =
+    let own : List ℤ = partAt soilWidth (r .cell) soil in
+    let row : List ℕ = partAt rowWidth (r .cell) rows in
+    (1, cardOk card)
+    ∷ (2, soilFits card soil && rowsFit card rows)
+    ∷ (3, cellFits card r)
+    ∷ (4, soilOk own)
+    ∷ (5, rowOk (card .delays) row)
+    ∷ (6, not (isOld (lifeOf row) (nextOf row) r))
+    ∷ (7, not (isGap (lifeOf row) (nextOf row) r))
+    ∷ (8, fieldsOk r)
+    ∷ (9, not (isUnusable (classOf (r .head))))
+    ∷ (10, not (isInactive (classOf (r .head))))
+    ∷ []
 
 -- a check: refused with `why` where it fails, else what comes next
 unfoldable pub refuse : Bool → Refusal → Answer → Answer
@@ -59,18 +78,20 @@ siteRows card soil rows r =
     (putAt rowWidth (r .cell) (newRow card (partAt soilWidth (r .cell) soil) (partAt rowWidth (r .cell) rows) r) rows)
     rows
 
--- what a step of the site gives, for every input
+-- what a step of the site gives, for every input: its number is that of the first check that fails, 0 where none does
 pub record SiteGives (card : Card) (soil : List ℤ) (rows : List ℕ) (r : Reading) (answer : Answer) (after : List ℕ) : Type 0 where
   pub answer-is : answer ≡ siteAnswer card soil rows r
+  pub number-is : numberOf answer ≡ firstFailing (checksOf card soil rows r)
+  pub amounts-are : amountsOf answer ≡ amountsOf (siteAnswer card soil rows r)
   pub rows-are : after ≡ siteRows card soil rows r
 
 -- ---- clearing: knows 1 and the row part of 2 only
 unfoldable pub clearNumber : Card → List ℕ → ℕ
-clearNumber card rows = cond (cardOk card) (cond (rowsFit card rows) 0 2) 1
+clearNumber card rows = firstFailing ((refusalNumber BadCard, cardOk card) ∷ (refusalNumber BadLengths, rowsFit card rows) ∷ [])
 
 -- sets all rows of the site to 0; refused, the slice is as it came
 unfoldable pub clearRows : Card → List ℕ → List ℕ
-clearRows card rows = cond (cardOk card && rowsFit card rows) (replicate (length rows) 0) rows
+clearRows card rows = cond (eqb (clearNumber card rows) 0) (replicate (length rows) 0) rows
 
 pub record ClearGives (card : Card) (rows : List ℕ) (number : ℕ) (after : List ℕ) : Type 0 where
   pub number-is : number ≡ clearNumber card rows

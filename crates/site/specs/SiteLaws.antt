@@ -1,14 +1,14 @@
 -- Laws of a step of the site and of clearing. Assumes nothing.
 use mathlib.Core.Path.{_≡_, refl, sym, ap, _∙_}
 use mathlib.Core.Bool.{Bool, true, false, cond, _&&_, and-eq-true-iff}
-use mathlib.Core.List.{List}
+use mathlib.Core.List.{List, [], _∷_, _++_}
 use Prim.Native.Nat.{ℕ, suc, _+_, _*_, _≤_, _<_}
 use native.Mathlib.Nat.{mul-le-mul-left}
 use native.Mathlib.Omega.{arith}
 use borrow.Author.Tests.{ltb-true, eqb-true}
 use lib.Dec.{eqb}
 use lib.IntN.{ℤ}
-use lib.ListN.{length, getD, replicate}
+use lib.ListN.{length, getD, take, drop, replicate}
 use Rattle.cell.specs.declared.Amounts.{Amounts}
 use Rattle.cell.specs.declared.Answer.{Answer}
 use Rattle.cell.specs.declared.Answer.the-variants.{Accepted, Refused}
@@ -16,12 +16,14 @@ use Rattle.cell.specs.declared.Card.{Card}
 use Rattle.cell.specs.declared.Reading.{Reading}
 use Rattle.cell.specs.declared.Refusal.{Refusal}
 use Rattle.cell.specs.declared.Refusal.the-variants.{BadCard, BadLengths, BadCell}
-use Rattle.cell.specs.Ranges.{cardOk}
+use Rattle.cell.specs.Ranges.{cardOk, lifeOf, nextOf}
 use Rattle.cell.specs.Step.{answerOf, newRow}
+use Rattle.cell.specs.Refusals.{refusalNumber, firstFailing, numberOf, amountsOf}
+use Rattle.cell.specs.CheckLaws.{row-number, same-order}
 use Rattle.cell.specs.AnswerLaws.{stays, bad-card, length-after}
 use Rattle.site.specs.Rows.{partAt, putAt}
 use Rattle.site.specs.RowsLaws.{put-back, put-same, put-other, put-length, put-outside, room, part-zeros}
-use Rattle.site.specs.Site.{soilWidth, rowWidth, soilFits, rowsFit, cellFits, refuse, siteAnswer, rowsBy, siteRows, SiteGives, clearNumber, clearRows, ClearGives}
+use Rattle.site.specs.Site.{soilWidth, rowWidth, soilFits, rowsFit, cellFits, checksOf, refuse, siteAnswer, rowsBy, siteRows, SiteGives, clearNumber, clearRows, ClearGives}
 
 module _ (card : Card) (soil : List ℤ) (rows : List ℕ) (r : Reading) where
   abbrev soilPart : List ℤ
@@ -60,6 +62,21 @@ module _ (card : Card) (soil : List ℤ) (rows : List ℕ) (r : Reading) where
       go : (a : Bool) → cardOk card ≡ a → siteAnswer card soil rows r ≡ answerOf card soilPart rowPart r
       go true p = sym (by-checks p e f)
       go false p = sym (by-checks p refl refl) ∙ sym (bad-card card soilPart rowPart r p)
+
+  -- ---- the number is that of the first check in the table that fails
+  pub first-failing : numberOf (siteAnswer card soil rows r) ≡ firstFailing (checksOf card soil rows r)
+  unfolding checksOf refuse
+  first-failing = go (cardOk card) refl (soilFits card soil && rowsFit card rows) refl (cellFits card r) refl
+    where
+      go : (a : Bool) → cardOk card ≡ a → (b : Bool) → (soilFits card soil && rowsFit card rows) ≡ b → (c : Bool) → cellFits card r ≡ c → numberOf (siteAnswer card soil rows r) ≡ firstFailing (checksOf card soil rows r)
+      go false p b q c s = rw (← by-checks p q s, p)
+      go true p false q c s = rw (← by-checks p q s, p, q)
+      go true p true q false s = rw (← by-checks p q s, p, q, s)
+      go true p true q true s = rw (← by-checks p q s, p, q, s) (rw p at (row-number card soilPart rowPart r))
+
+  -- what an answer and the rows promise, where they are those of the definitions
+  pub gives : {answer : Answer} {after : List ℕ} → answer ≡ siteAnswer card soil rows r → after ≡ siteRows card soil rows r → SiteGives card soil rows r answer after
+  gives p q = record { answer-is = p; number-is = ap numberOf p ∙ first-failing; amounts-are = ap amountsOf p; rows-are = q }
 
   -- ---- the rows: refused, exactly as they came
   pub rows-stay : (why : Refusal) → siteAnswer card soil rows r ≡ Refused why → siteRows card soil rows r ≡ rows
@@ -132,11 +149,11 @@ module _ (card : Card) (soil : List ℤ) (rows : List ℕ) (r : Reading) where
 
 -- ---- clearing, by its two checks
 module _ (card : Card) (rows : List ℕ) where
-  pub clear-card : cardOk card ≡ false → ClearGives card rows 1 rows
+  pub clear-card : cardOk card ≡ false → ClearGives card rows (refusalNumber BadCard) rows
   unfolding clearNumber clearRows
   clear-card p = record { number-is = rw p; rows-are = rw p }
 
-  pub clear-long : cardOk card ≡ true → rowsFit card rows ≡ false → ClearGives card rows 2 rows
+  pub clear-long : cardOk card ≡ true → rowsFit card rows ≡ false → ClearGives card rows (refusalNumber BadLengths) rows
   unfolding clearNumber clearRows
   clear-long p q = record { number-is = rw (p, q); rows-are = rw (p, q) }
 
@@ -146,7 +163,55 @@ module _ (card : Card) (rows : List ℕ) where
 
 -- ---- a step that is refused gives the rows as they came
 pub refused-gives : (card : Card) (soil : List ℤ) (rows : List ℕ) (r : Reading) (why : Refusal) → siteAnswer card soil rows r ≡ Refused why → SiteGives card soil rows r (Refused why) rows
-refused-gives card soil rows r why e = record { answer-is = sym e; rows-are = sym (rows-stay card soil rows r why e) }
+refused-gives card soil rows r why e = gives card soil rows r (sym e) (sym (rows-stay card soil rows r why e))
+
+-- ---- a reading refused with 8, 9 or 10 does not use up its count
+-- the checks of a list, each with a number below n: they are passed where the first failing check of them and others has the number n or a higher one
+abbrev Below : ℕ → List (ℕ × Bool) → Type 0
+Below n [] = Unit {0}
+Below n (check ∷ more) = (check .0 < n) × Below n more
+
+were-passed : (n : ℕ) (checks others : List (ℕ × Bool)) → Below n checks → n ≤ firstFailing (checks ++ others) → firstFailing checks ≡ 0
+were-passed n [] others b h = refl
+were-passed n (check ∷ more) others b h = go (check .1) refl (were-passed n more others (b .1))
+  where
+    go : (t : Bool) → check .1 ≡ t → (n ≤ firstFailing (more ++ others) → firstFailing more ≡ 0) → cond (check .1) (firstFailing more) (check .0) ≡ 0
+    go true e ih = rw e (ih (rw e at h))
+    go false e ih = absurd (let k : n ≤ check .0 = rw e at h in omega (arith, b .0))
+
+-- checks 1 to 7 look at a reading's cell, life and count only
+first-seven : (card : Card) (soil : List ℤ) (rows : List ℕ) (r r' : Reading) → r .cell ≡ r' .cell → r .life ≡ r' .life → r .count ≡ r' .count
+    → take 7 (checksOf card soil rows r') ≡ take 7 (checksOf card soil rows r)
+unfolding checksOf cellFits
+first-seven card soil rows r r' c l n =
+    let row : List ℕ = partAt rowWidth (r' .cell) rows in
+    let o = same-order (lifeOf row) (nextOf row) r r' l n in
+    rw (← (o .0), ← (o .1), ← c)
+
+seven-passed : (card : Card) (soil : List ℤ) (rows : List ℕ) (r : Reading) → 8 ≤ firstFailing (checksOf card soil rows r) → firstFailing (take 7 (checksOf card soil rows r)) ≡ 0
+unfolding checksOf
+seven-passed card soil rows r h =
+    were-passed 8 (take 7 (checksOf card soil rows r)) (drop 7 (checksOf card soil rows r))
+    (omega arith, (omega arith, (omega arith, (omega arith, (omega arith, (omega arith, (omega arith, tt))))))) h
+
+-- the rows stay, and a corrected reading of the same plot, life and count meets the same checks 1 to 7, which are passed
+pub count-open : (card : Card) (soil : List ℤ) (rows : List ℕ) (r r' : Reading) {answer : Answer} {after : List ℕ} → SiteGives card soil rows r answer after → 8 ≤ numberOf answer
+    → r .cell ≡ r' .cell → r .life ≡ r' .life → r .count ≡ r' .count
+    → (after ≡ rows) × (take 7 (checksOf card soil after r') ≡ take 7 (checksOf card soil rows r)) × (firstFailing (take 7 (checksOf card soil after r')) ≡ 0)
+count-open card soil rows r r' {answer} {after} g h c l n = (stay, same, ap firstFailing same ∙ were)
+  where
+    by : (x : Answer) → siteAnswer card soil rows r ≡ x → 8 ≤ numberOf x → siteRows card soil rows r ≡ rows
+    by (Accepted a) e k = absurd (omega arith)
+    by (Refused why) e k = rows-stay card soil rows r why e
+
+    stay : after ≡ rows
+    stay = g .rows-are ∙ by (siteAnswer card soil rows r) refl (rw (g .answer-is) at h)
+
+    same : take 7 (checksOf card soil after r') ≡ take 7 (checksOf card soil rows r)
+    same = rw stay (first-seven card soil rows r r' c l n)
+
+    were : firstFailing (take 7 (checksOf card soil rows r)) ≡ 0
+    were = seven-passed card soil rows r (rw (g .number-is) at h)
 
 -- ---- the answer and the new row depend on nothing but the card, the two lengths, the named cell's soil numbers and row, and the reading
 module _ (card : Card) (soil soil' : List ℤ) (rows rows' : List ℕ) (r : Reading)
@@ -186,7 +251,7 @@ pub cleared-part : (card : Card) (rows : List ℕ) → clearNumber card rows ≡
 unfolding clearNumber clearRows rowsFit
 cleared-part card rows z p h = go (cardOk card) (eqb (length rows) (rowWidth * card .cells)) refl z
   where
-    go : (a b : Bool) → eqb (length rows) (rowWidth * card .cells) ≡ b → _≡_ {A = ℕ} (cond a (cond b 0 2) 1) 0 → partAt rowWidth p (cond (a && b) (replicate (length rows) 0) rows) ≡ replicate rowWidth 0
+    go : (a b : Bool) → eqb (length rows) (rowWidth * card .cells) ≡ b → _≡_ {A = ℕ} (cond a (cond b 0 2) 1) 0 → partAt rowWidth p (cond (eqb (cond a (cond b 0 2) 1) 0) (replicate (length rows) 0) rows) ≡ replicate rowWidth 0
     go false b e f = absurd (omega arith)
     go true false e f = absurd (omega arith)
     go true true e f =

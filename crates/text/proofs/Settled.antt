@@ -24,19 +24,19 @@ pub card-read-settled : (κs : Lfts 2) (a : Dens κs card-read.ps) (r r' : resT 
 card-read-settled κs a r r' x x' p p' = (p .0 ∙ sym (p' .0), p .1 ∙ sym (p' .1))
 
 pub card-write-settled : (κs : Lfts 2) (a : Dens κs card-write.ps) (r r' : resT card-write.r κs .Denot) (x x' : AtExit (endedOf 2 card-write.ps card-write.r) κs) → card-write-reads.Post κs a r x → card-write-reads.Post κs a r' x' → (r ≡ r') × (now (x .1 .1 .0) ≡ now (x' .1 .1 .0))
-card-write-settled κs a r r' x x' p p' = (p .written ∙ sym (p' .written), p .buffer ∙ sym (p' .buffer))
+card-write-settled κs a r r' x x' p p' = (p .written-is ∙ sym (p' .written-is), p .buffer-is ∙ sym (p' .buffer-is))
 
 pub reading-read-settled : (κs : Lfts 1) (a : Dens κs reading-read.ps) (r r' : resT reading-read.r κs .Denot) (x x' : AtExit (endedOf 1 reading-read.ps reading-read.r) κs) → reading-read-reads.Post κs a r x → reading-read-reads.Post κs a r' x' → r ≡ r'
 reading-read-settled κs a r r' x x' p p' = p ∙ sym p'
 
 pub reading-write-settled : (κs : Lfts 1) (a : Dens κs reading-write.ps) (r r' : resT reading-write.r κs .Denot) (x x' : AtExit (endedOf 1 reading-write.ps reading-write.r) κs) → reading-write-reads.Post κs a r x → reading-write-reads.Post κs a r' x' → (r ≡ r') × (now (x .1 .0) ≡ now (x' .1 .0))
-reading-write-settled κs a r r' x x' p p' = (p .0 ∙ sym (p' .0), p .1 ∙ sym (p' .1))
+reading-write-settled κs a r r' x x' p p' = (p .written-is ∙ sym (p' .written-is), p .buffer-is ∙ sym (p' .buffer-is))
 
 pub line-settled : (κs : Lfts 1) (a : Dens κs line.ps) (r r' : resT line.r κs .Denot) (x x' : AtExit (endedOf 1 line.ps line.r) κs) → line-reads.Post κs a r x → line-reads.Post κs a r' x' → (r ≡ r') × (now (x .1 .1 .1 .0) ≡ now (x' .1 .1 .1 .0))
-line-settled κs a r r' x x' p p' = (p .written ∙ sym (p' .written), p .buffer ∙ sym (p' .buffer))
+line-settled κs a r r' x x' p p' = (p .written-is ∙ sym (p' .written-is), p .buffer-is ∙ sym (p' .buffer-is))
 
 pub answer-settled : (κs : Lfts 1) (a : Dens κs answer.ps) (r r' : resT answer.r κs .Denot) (x x' : AtExit (endedOf 1 answer.ps answer.r) κs) → answer-reads.Post κs a r x → answer-reads.Post κs a r' x' → (r ≡ r') × (now (x .1 .1 .0) ≡ now (x' .1 .1 .0))
-answer-settled κs a r r' x x' p p' = (p .written ∙ sym (p' .written), p .buffer ∙ sym (p' .buffer))
+answer-settled κs a r r' x x' p p' = (p .written-is ∙ sym (p' .written-is), p .buffer-is ∙ sym (p' .buffer-is))
 
 pub sheet-settled : (κs : Lfts 1) (a : Dens κs sheet.ps) (r r' : resT sheet.r κs .Denot) (x x' : AtExit (endedOf 1 sheet.ps sheet.r) κs) → sheet-reads.Post κs a r x → sheet-reads.Post κs a r' x' → (r ≡ r') × (now (x .1 .0) ≡ now (x' .1 .0))
-sheet-settled κs a r r' x x' p p' = (p .written ∙ sym (p' .written), p .buffer ∙ sym (p' .buffer))
+sheet-settled κs a r r' x x' p p' = (p .written-is ∙ sym (p' .written-is), p .buffer-is ∙ sym (p' .buffer-is))

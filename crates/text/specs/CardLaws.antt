@@ -7,9 +7,12 @@ use native.Mathlib.Numerals.{add-one}
 use native.Mathlib.Omega.{arith}
 use lib.ListN.{length, take, drop, getD, set, replicate}
 use lib.Seq.{sets, sets-eq, set-at, drop-cons, take-suc, append-snoc, length-take-le}
-use lib.Dec.{ltb}
 use lib.IntN.{ℤ, pos}
-use borrow.Author.Tests.{lt-ltb, le-ltb, eq-eqb, ne-eqb, ltb-false}
+use borrow.Author.Tests.{lt-ltb, le-ltb, eq-eqb, ne-eqb}
+use Rattle.cell.specs.declared.Refusal.the-variants.{BadLengths}
+use Rattle.cell.specs.Ranges.{countsOk}
+use Rattle.cell.specs.RangeLaws.{counts-in}
+use Rattle.cell.specs.Refusals.{refusalNumber, malformed}
 use Rattle.form.specs.declared.line.Taken.{Taken}
 use Rattle.form.specs.declared.lines.Ran.{Ran}
 use Rattle.text.specs.declared.card.Counts.{Counts}
@@ -20,7 +23,7 @@ use Rattle.form.specs.Many.{Run, manyAt, ranOf}
 use Rattle.form.specs.RunLaws.{form-length, many-length}
 use Rattle.form.specs.Words.{wordOf}
 use Rattle.text.specs.Lines.{cardForm, depthForm, soilForm}
-use Rattle.text.specs.Cards.{noCounts, rangeCounts, countsOf, countsOfOut, depthsAt, cardOf, refusedCard, badLine, parse, cardResult, soilResult}
+use Rattle.text.specs.Cards.{noCounts, rangeCounts, countsOf, countsOfOut, depthsAt, cardWith, refusedCard, badLine, parse, cardResult, soilResult}
 
 -- a copy's turn
 pub copy-suc : (s d : List ℤ) (k : ℕ) → k < length s → k < length d → set (take k s ++ drop k d) k (getD s k (pos 0)) ≡ take (suc k) s ++ drop (suc k) d
@@ -79,23 +82,15 @@ pub head-range : (s : List ℕ) (h : Counts) → h ≡ countsOf s → (h .delays
 unfolding countsOf rangeCounts
 head-range s h e = rw e (first (formAt cardForm s 0))
   where
-    last : (b : Bool) (n c d : ℕ) → ltb 30 d ≡ b → ltb 256 c ≡ false → (cond b noCounts (record { ok = true; next = n; cells = c; delays = d }) .delays ≤ 30) × (cond b noCounts (record { ok = true; next = n; cells = c; delays = d }) .cells ≤ 256)
-    last true n c d p q = (omega arith, omega arith)
-    last false n c d p q = (ltb-false 30 d p, ltb-false 256 c q)
-
-    mid : (b : Bool) (n c d : ℕ) → ltb 256 c ≡ b → (cond b noCounts (cond (ltb 30 d) noCounts (record { ok = true; next = n; cells = c; delays = d })) .delays ≤ 30) × (cond b noCounts (cond (ltb 30 d) noCounts (record { ok = true; next = n; cells = c; delays = d })) .cells ≤ 256)
-    mid true n c d p = (omega arith, omega arith)
-    mid false n c d p = last (ltb 30 d) n c d refl p
-
-    low : (b : Bool) (n c d : ℕ) → ltb c 1 ≡ b → (cond b noCounts (cond (ltb 256 c) noCounts (cond (ltb 30 d) noCounts (record { ok = true; next = n; cells = c; delays = d }))) .delays ≤ 30) × (cond b noCounts (cond (ltb 256 c) noCounts (cond (ltb 30 d) noCounts (record { ok = true; next = n; cells = c; delays = d }))) .cells ≤ 256)
-    low true n c d p = (omega arith, omega arith)
-    low false n c d p = mid (ltb 256 c) n c d refl
+    by-range : (b : Bool) (n c d : ℕ) → countsOk c d ≡ b → (cond b (record { ok = true; next = n; cells = c; delays = d }) noCounts .delays ≤ 30) × (cond b (record { ok = true; next = n; cells = c; delays = d }) noCounts .cells ≤ 256)
+    by-range true n c d p = let (_, m, f) = counts-in c d p in (f, m)
+    by-range false n c d p = (omega arith, omega arith)
 
     first : (o : Out) → (countsOfOut o .delays ≤ 30) × (countsOfOut o .cells ≤ 256)
     first o = go (o .ok)
       where
         go : (b : Bool) → (cond b (rangeCounts (o .next) (wordOf (getD (o .vals) 0 (pos 0))) (wordOf (getD (o .vals) 1 (pos 0)))) noCounts .delays ≤ 30) × (cond b (rangeCounts (o .next) (wordOf (getD (o .vals) 0 (pos 0))) (wordOf (getD (o .vals) 1 (pos 0)))) noCounts .cells ≤ 256)
-        go true = low (ltb (wordOf (getD (o .vals) 0 (pos 0))) 1) (o .next) (wordOf (getD (o .vals) 0 (pos 0))) (wordOf (getD (o .vals) 1 (pos 0))) refl
+        go true = by-range (countsOk (wordOf (getD (o .vals) 0 (pos 0))) (wordOf (getD (o .vals) 1 (pos 0)))) (o .next) (wordOf (getD (o .vals) 0 (pos 0))) (wordOf (getD (o .vals) 1 (pos 0))) refl
         go false = (omega arith, omega arith)
 
 -- ---- the whole card
@@ -108,11 +103,11 @@ MM s = manyAt (countsOf s .cells) soilForm s (DD s .next)
 abbrev pub CardEnd : List ℕ → List ℤ → CardRead → List ℤ → Type 0
 CardEnd s b r l = (r ≡ cardResult (parse s) (length b)) × (l ≡ soilResult (parse s) b)
 
-end-bad : (s : List ℕ) (b : List ℤ) (n : ℕ) (r : CardRead) → parse s ≡ badLine n → (n ≡ 0 → ⊥) → r ≡ refusedCard 12 n → CardEnd s b r b
+end-bad : (s : List ℕ) (b : List ℤ) (n : ℕ) (r : CardRead) → parse s ≡ badLine n → (n ≡ 0 → ⊥) → r ≡ refusedCard malformed n → CardEnd s b r b
 end-bad s b n r p z e = (rw (p, ne-eqb n 0 z, e), rw (p, ne-eqb n 0 z))
 
 module _ (s : List ℕ) (b : List ℤ) (h : Counts) (eh : h ≡ countsOf s) (r : CardRead) where
-  pub end-head : h .ok ≡ false → r ≡ refusedCard 12 1 → CardEnd s b r b
+  pub end-head : h .ok ≡ false → r ≡ refusedCard malformed 1 → CardEnd s b r b
   end-head o e = end-bad s b 1 r p (omega arith) e
     where
       k : countsOf s .ok ≡ false
@@ -128,7 +123,7 @@ module _ (s : List ℕ) (b : List ℤ) (h : Counts) (eh : h ≡ countsOf s) (r :
     t′ : t ≡ takenOf (DD s)
     t′ = rw eh at et
 
-    pub end-depths : t .ok ≡ false → r ≡ refusedCard 12 1 → CardEnd s b r b
+    pub end-depths : t .ok ≡ false → r ≡ refusedCard malformed 1 → CardEnd s b r b
     end-depths o e = end-bad s b 1 r p (omega arith) e
       where
         k : DD s .ok ≡ false
@@ -144,8 +139,8 @@ module _ (s : List ℕ) (b : List ℤ) (h : Counts) (eh : h ≡ countsOf s) (r :
       m′ : m ≡ ranOf (MM s) 0
       m′ = rw (eh, t′) at em
 
-      pub end-soil : m .ok ≡ false → r ≡ refusedCard 12 (m .good + 2) → CardEnd s b r b
-      end-soil o e = end-bad s b (MM s .good + 2) r p (omega arith) (e ∙ ap (λ (n : ℕ). refusedCard 12 (n + 2)) g)
+      pub end-soil : m .ok ≡ false → r ≡ refusedCard malformed (m .good + 2) → CardEnd s b r b
+      end-soil o e = end-bad s b (MM s .good + 2) r p (omega arith) (e ∙ ap (λ (n : ℕ). refusedCard malformed (n + 2)) g)
         where
           k : MM s .ok ≡ false
           k = sym (ap (λ (x : Ran). x .ok) m′) ∙ o
@@ -156,13 +151,13 @@ module _ (s : List ℕ) (b : List ℤ) (h : Counts) (eh : h ≡ countsOf s) (r :
           p : parse s ≡ badLine (MM s .good + 2)
           p = unfold parse in rw (k1, k2, k)
 
-      fine : m .ok ≡ true → parse s ≡ record { line = 0; next = m .next; card = cardOf h (DD s .vals); soil = MM s .vals }
+      fine : m .ok ≡ true → parse s ≡ record { line = 0; next = m .next; card = cardWith h (DD s .vals); soil = MM s .vals }
       unfolding parse
       fine o =
           let k : MM s .ok ≡ true = sym (ap (λ (x : Ran). x .ok) m′) ∙ o in
           rw (k1, k2, k, eh, m′)
 
-      pub end-short : m .ok ≡ true → length b < h .cells * 5 → r ≡ refusedCard 2 0 → CardEnd s b r b
+      pub end-short : m .ok ≡ true → length b < h .cells * 5 → r ≡ refusedCard (refusalNumber BadLengths) 0 → CardEnd s b r b
       end-short o l e = (rw (fine o, lt-ltb _ _ l, e), rw (fine o, lt-ltb _ _ l))
 
       pub end-good : (ds : List ℕ) (v l : List ℤ) → m .ok ≡ true → h .cells * 5 ≤ length b → v ≡ sets (replicate 30 (pos 0)) 0 (depthsAt (h .delays) s (h .next) .vals)

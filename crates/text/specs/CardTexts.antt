@@ -6,26 +6,30 @@ use Prim.Native.Nat.{ℕ, zero, suc, _+_, _-_, _*_, _≤_, _<_}
 use native.Mathlib.Nat.{sub-zero, zero-add}
 use native.Mathlib.Omega.{arith}
 use lib.ListN.{length, take, drop, getD, set, replicate, length-map, length-append, length-drop, take-append-drop, length-replicate}
-use lib.Seq.{sets, sets-eq, take-at, drop-at, take-all, append-snoc, drop-cons, length-take-le}
-use lib.Dec.{leb, ltb, eqb}
+use lib.Seq.{sets, sets-eq, length-sets, take-at, drop-at, take-all, append-snoc, drop-cons, length-take-le}
+use lib.Dec.{ltb, eqb}
 use lib.IntN.{ℤ, pos}
-use borrow.Author.Tests.{le-leb, lt-ltb, le-ltb, eq-eqb, ne-eqb, ltb-false, eqb-true}
+use borrow.Author.Tests.{le-leb, lt-ltb, le-ltb, eq-eqb, ne-eqb, eqb-true}
 use Rattle.text.specs.declared.Written.{Written}
 use native.Mathlib.Numerals.{add-one}
 use Rattle.text.specs.declared.card.Counts.{Counts}
 use Rattle.text.specs.declared.card.CardRead.{CardRead}
 use Rattle.cell.specs.declared.Card.{Card}
+use Rattle.cell.specs.declared.Refusal.the-variants.{BadLengths}
+use Rattle.cell.specs.Ranges.{countsOk, noneOf}
+use Rattle.cell.specs.RangeLaws.{counts-in, counts-ok, none-ends, none-more}
+use Rattle.cell.specs.Refusals.{refusalNumber, malformed}
 use Rattle.form.specs.Form.{Out, formAt, formText, byteAt}
-use Rattle.form.specs.FormLaws.{form-one, form-back, ok-length, ok-words, apart-stops, parted, read, unword, cells-take, take-byte, byte-is, byte-seam, small-oks, allSmall, and-i, and-1, and-2}
-use Rattle.form.specs.Many.{Run, manyAt, rowsText, okRows, rowsFit}
-use Rattle.form.specs.RunLaws.{many-length}
+use Rattle.form.specs.FormLaws.{form-one, form-back, ok-words, apart-stops, parted, read, unword, cells-take, take-byte, byte-is, byte-seam, small-oks, allSmall, and-i, and-1, and-2}
+use Rattle.form.specs.Many.{Run, manyAt, rowsText, manyFit}
+use Rattle.form.specs.RunLaws.{form-length, many-length, good-most}
 use Rattle.form.specs.DecLaws.{stops}
-use Rattle.form.specs.ManyLaws.{many-one, many-back, ran, rows-fit, rows-front, good-most, rows-stops, rows-words, rows-small}
+use Rattle.form.specs.ManyLaws.{many-one, many-back, ran, rows-front, rows-stops, rows-words, rows-small}
 use Rattle.form.specs.Words.{wordOf}
 use Rattle.text.specs.Lines.{cardForm, depthForm, soilForm}
-use Rattle.text.specs.Cards.{rangeCounts, countsOf, depthsAt, parse, cardResult, soilResult, cardText, cardParts, allZero, given, Wrote}
-use Rattle.text.specs.Written.{noText}
-use Rattle.text.specs.ReadingLaws.{write-short, write-fits}
+use Rattle.text.specs.Cards.{rangeCounts, countsOf, depthsAt, parse, cardResult, soilResult, cardText, cardParts, hasText, cardChecks}
+use Rattle.text.specs.Written.{fitsIn, Writes}
+use Rattle.text.specs.WrittenLaws.{no-room, room, writes-none, writes-all, writes-text}
 use Rattle.form.specs.Put.{sets-step}
 
 map-two : (vs : List ℤ) → map pos (map wordOf vs) ≡ map unword vs
@@ -35,14 +39,11 @@ map-two (z ∷ vs) = rw (map-two vs)
 -- ---- the first line
 range-ok : (n a b : ℕ) → rangeCounts n a b .ok ≡ true → (rangeCounts n a b ≡ record { ok = true; next = n; cells = a; delays = b }) × (1 ≤ a) × (a ≤ 256) × (b ≤ 30)
 unfolding rangeCounts
-range-ok n a b e = go (ltb a 1) refl (ltb 256 a) refl (ltb 30 b) refl
+range-ok n a b e = go (countsOk a b) refl
   where
-    go : (x : Bool) → ltb a 1 ≡ x → (y : Bool) → ltb 256 a ≡ y → (z : Bool) → ltb 30 b ≡ z
-        → (rangeCounts n a b ≡ record { ok = true; next = n; cells = a; delays = b }) × (1 ≤ a) × (a ≤ 256) × (b ≤ 30)
-    go true p y q z r = absurd (false≢true (rw p at e))
-    go false p true q z r = absurd (false≢true (rw (p, q) at e))
-    go false p false q true r = absurd (false≢true (rw (p, q, r) at e))
-    go false p false q false r = (rw (p, q, r), ltb-false a 1 p, ltb-false 256 a q, ltb-false 30 b r)
+    go : (x : Bool) → countsOk a b ≡ x → (rangeCounts n a b ≡ record { ok = true; next = n; cells = a; delays = b }) × (1 ≤ a) × (a ≤ 256) × (b ≤ 30)
+    go true p = let (l, m, d) = counts-in a b p in (rw p, l, m, d)
+    go false p = absurd (false≢true (rw p at e))
 
 pub record CountsRead (s : List ℕ) (h : Counts) : Type 0 where
   pub text : take (h .next) s ≡ formText cardForm (pos (h .cells) ∷ pos (h .delays) ∷ [])
@@ -51,7 +52,7 @@ pub record CountsRead (s : List ℕ) (h : Counts) : Type 0 where
   pub most : h .cells ≤ 256
   pub few : h .delays ≤ 30
 
-head-one : (s : List ℕ) → countsOf s .ok ≡ true → CountsRead s (countsOf s)
+pub head-one : (s : List ℕ) → countsOf s .ok ≡ true → CountsRead s (countsOf s)
 unfolding countsOf
 head-one s e = go (formAt cardForm s 0 .ok) refl
   where
@@ -69,19 +70,19 @@ head-one s e = go (formAt cardForm s 0 .ok) refl
     go true k =
         let r = form-one cardForm s 0 refl (omega arith) k in
         let (g, l, m, d) = range-ok (o .next) a b (rw k at e) in
-        let n : length (o .vals) ≡ 2 = ok-length cardForm (o .vals) (r .fits) in
+        let n : length (o .vals) ≡ 2 = form-length cardForm s 0 k in
         let v : _≡_ {A = List ℤ} (pos a ∷ pos b ∷ []) (o .vals) =
-        ap (map unword) (cells-take 2 0 (o .vals) (omega arith) ∙ take-all 2 (o .vals) (omega arith)) ∙ ok-words cardForm (o .vals) refl (r .fits) in
+        ap (map unword) (cells-take 2 0 (o .vals) (omega arith) ∙ take-all 2 (o .vals) (omega arith)) ∙ ok-words cardForm (o .vals) refl n (r .fits) in
         rw (k, g) (record { text = rw v (r .text); room = r .room; some = l; most = m; few = d })
 
 -- ---- the depths and the line's end
 pub record EndRead (n : ℕ) (s : List ℕ) (at : ℕ) (o : Out) : Type 0 where
   pub text : take (o .next) s ≡ take at s ++ (rowsText n depthForm (o .vals) ++ (10 ∷ []))
   pub room : o .next ≤ length s
-  pub fits : okRows n depthForm (o .vals) ≡ true
+  pub fits : manyFit n depthForm (o .vals) ≡ true
   pub count : length (o .vals) ≡ n
 
-depths-one : (n : ℕ) (s : List ℕ) (at : ℕ) → at ≤ length s → depthsAt n s at .ok ≡ true → EndRead n s at (depthsAt n s at)
+pub depths-one : (n : ℕ) (s : List ℕ) (at : ℕ) → at ≤ length s → depthsAt n s at .ok ≡ true → EndRead n s at (depthsAt n s at)
 unfolding depthsAt
 depths-one n s at l e = go (manyAt n depthForm s at .ok) refl (eqb (byteAt s (manyAt n depthForm s at .next)) 10) refl
   where
@@ -103,13 +104,13 @@ depths-one n s at l e = go (manyAt n depthForm s at .ok) refl (eqb (byteAt s (ma
         })
 
 -- the depths of a card come back from it
-kept-depths : (n : ℕ) (vs : List ℤ) → okRows n depthForm vs ≡ true → length vs ≡ n → n ≤ 30
+kept-depths : (n : ℕ) (vs : List ℤ) → manyFit n depthForm vs ≡ true → length vs ≡ n → n ≤ 30
     → map pos (take n (map wordOf (sets (replicate 30 (pos 0)) 0 vs))) ≡ vs
 kept-depths n vs o c l =
     let z : List ℤ = replicate 30 (pos 0) in
     let e : sets z 0 vs ≡ vs ++ drop (0 + length vs) z = sets-eq vs z 0 (omega arith) in
     rw (e, map-append wordOf vs (drop (0 + length vs) z), take-at (map wordOf vs) (map wordOf (drop (0 + length vs) z)) n (length-map vs wordOf ∙ c))
-    (map-two vs ∙ rows-words n depthForm vs refl o)
+    (map-two vs ∙ rows-words n depthForm vs refl (c ∙ omega arith) o)
 
 -- a card that is read has a good first line, good depths and good soil lines
 module _ (s : List ℕ) where
@@ -172,9 +173,10 @@ pub record CardFits (c : Card) (soil : List ℤ) : Type 0 where
   pub some : 1 ≤ c .cells
   pub most : c .cells ≤ 256
   pub few : c .delays ≤ 30
-  pub depths : okRows (c .delays) depthForm (map pos (take (c .delays) (c .depths))) ≡ true
+  pub depths : manyFit (c .delays) depthForm (map pos (take (c .delays) (c .depths))) ≡ true
   pub unused : map wordOf (sets (replicate 30 (pos 0)) 0 (map pos (take (c .delays) (c .depths)))) ≡ c .depths
-  pub rows : okRows (c .cells) soilForm soil ≡ true
+  pub long : length soil ≡ c .cells * 5
+  pub rows : manyFit (c .cells) soilForm soil ≡ true
 
 depth-parted : (vs : List ℤ) (x : List ℕ) → parted depthForm (formText depthForm vs ++ x) ≡ true
 depth-parted vs x = and-i (stops (formText depthForm vs ++ x)) true (apart-stops depthForm vs x refl) refl
@@ -204,22 +206,27 @@ module _ (c : Card) (soil : List ℤ) (q : List ℕ) (ok : CardFits c soil) wher
   as-soil : whole ≡ ((ta ++ tb) ++ (10 ∷ [])) ++ (tc ++ q)
   as-soil = as-end ∙ sym (append-snoc (ta ++ tb) 10 (tc ++ q))
 
+  depths-count : length vd ≡ c .delays * 1
+  depths-count =
+      let l : length (c .depths) ≡ 30 = sym (ap length (ok .unused)) ∙ length-map (sets (replicate 30 (pos 0)) 0 vd) wordOf ∙ length-sets (replicate 30 (pos 0)) 0 vd in
+      length-map (take (c .delays) (c .depths)) pos ∙ length-take-le (c .delays) (c .depths) (omega (arith, ok .few)) ∙ omega arith
+
   read-head : countsOf whole ≡ record { ok = true; next = length ta; cells = c .cells; delays = c .delays }
   unfolding countsOf rangeCounts
   read-head =
       let p : c .cells < 4294967296 = omega (arith, ok .most) in
       let r : c .delays < 4294967296 = omega (arith, ok .few) in
-      let f = form-back cardForm (pos (c .cells) ∷ pos (c .delays) ∷ []) [] (tb ++ (10 ∷ (tc ++ q)))
-      (small-oks cardForm (pos (c .cells) ∷ pos (c .delays) ∷ []) refl (and-i _ _ (lt-ltb _ _ p) (and-i _ _ (lt-ltb _ _ r) refl)) refl)
+      let f = form-back cardForm (pos (c .cells) ∷ pos (c .delays) ∷ []) [] (tb ++ (10 ∷ (tc ++ q))) refl
+      (small-oks cardForm (pos (c .cells) ∷ pos (c .delays) ∷ []) refl (and-i _ _ (lt-ltb _ _ p) (and-i _ _ (lt-ltb _ _ r) refl)))
       (and-i (stops (tb ++ (10 ∷ (tc ++ q)))) true (rows-stops depthForm (λ x. refl) (c .delays) vd (10 ∷ (tc ++ q)) refl) refl) in
       let z : 0 + length ta ≡ length ta = omega arith in
-      rw (as-head, f, z, lt-ltb (c .cells) 4294967296 p, lt-ltb (c .delays) 4294967296 r, le-ltb (c .cells) 1 (ok .some), le-ltb 256 (c .cells) (ok .most), le-ltb 30 (c .delays) (ok .few))
+      rw (as-head, f, z, lt-ltb (c .cells) 4294967296 p, lt-ltb (c .delays) 4294967296 r, counts-ok (c .cells) (c .delays) (ok .some) (ok .most) (ok .few))
 
   read-depths : depthsAt (c .delays) whole (length ta) ≡ read (suc (length ta + length tb)) vd
   unfolding depthsAt
   read-depths =
       let m : manyAt (c .delays) depthForm whole (length ta) ≡ ran (c .delays) (length ta + length tb) vd =
-      rw as-head (many-back depthForm (10 ∷ (tc ++ q)) depth-parted refl (c .delays) vd ta (ok .depths)) in
+      rw as-head (many-back depthForm (10 ∷ (tc ++ q)) depth-parted refl (c .delays) vd ta depths-count (ok .depths)) in
       let l : length (ta ++ tb) ≡ length ta + length tb = length-append ta tb in
       let b : byteAt whole (length ta + length tb) ≡ 10 = rw (as-end, ← l) (byte-seam (ta ++ tb) 10 (tc ++ q)) in
       rw (m, b)
@@ -227,7 +234,7 @@ module _ (c : Card) (soil : List ℤ) (q : List ℕ) (ok : CardFits c soil) wher
   read-soil : manyAt (c .cells) soilForm whole (suc (length ta + length tb)) ≡ ran (c .cells) (suc (length ta + length tb) + length tc) soil
   read-soil =
       let l : length ((ta ++ tb) ++ (10 ∷ [])) ≡ suc (length ta + length tb) = simp length-append (omega arith) in
-      rw (as-soil, ← l) (many-back soilForm q (λ vs x. refl) refl (c .cells) soil ((ta ++ tb) ++ (10 ∷ [])) (ok .rows))
+      rw (as-soil, ← l) (many-back soilForm q (λ vs x. refl) refl (c .cells) soil ((ta ++ tb) ++ (10 ∷ [])) (ok .long) (ok .rows))
 
   whole-length : suc (length ta + length tb) + length tc ≡ length (ta ++ (tb ++ (10 ∷ tc)))
   whole-length = simp length-append (omega arith)
@@ -262,15 +269,14 @@ pub vals-turn : (v : List ℤ) (d : List ℕ) (k : ℕ) (z : ℤ) → k < length
     → sets v k (map pos (drop k d)) ≡ sets (set v k z) (k + 1) (map pos (drop (k + 1) d))
 vals-turn v d k z h e = rw (add-one k, drop-cons d k 0 h, e)
 
-pub given-range : (c : Card) → given c ≡ true → (c .cells ≤ 256) × (c .delays ≤ 30)
-unfolding given
-given-range c e = go (ltb (c .cells) 1) refl (ltb 256 (c .cells)) refl (ltb 30 (c .delays)) refl
-  where
-    go : (x : Bool) → ltb (c .cells) 1 ≡ x → (y : Bool) → ltb 256 (c .cells) ≡ y → (z : Bool) → ltb 30 (c .delays) ≡ z → (c .cells ≤ 256) × (c .delays ≤ 30)
-    go true p y q z r = absurd (false≢true (rw p at e))
-    go false p true q z r = absurd (false≢true (rw (p, q) at e))
-    go false p false q true r = absurd (false≢true (rw (p, q, r) at e))
-    go false p false q false r = (ltb-false 256 (c .cells) q, ltb-false 30 (c .delays) r)
+-- a card that some text gives has its counts in range, and its unused places hold 0
+pub text-counts : (c : Card) → hasText c ≡ true → (1 ≤ c .cells) × (c .cells ≤ 256) × (c .delays ≤ 30)
+unfolding hasText
+text-counts c e = counts-in (c .cells) (c .delays) (and-1 (countsOk (c .cells) (c .delays)) (noneOf (drop (c .delays) (c .depths))) e)
+
+text-unused : (c : Card) → hasText c ≡ true → noneOf (drop (c .delays) (c .depths)) ≡ true
+unfolding hasText
+text-unused c e = and-2 (countsOk (c .cells) (c .delays)) (noneOf (drop (c .delays) (c .depths))) e
 
 parts-text : (c : Card) (soil : List ℤ) → c .delays ≤ length (c .depths)
     → cardParts (pos (c .cells) ∷ pos (c .delays) ∷ []) (c .delays) (map pos (c .depths)) (c .cells) soil ≡ cardText c soil
@@ -285,52 +291,55 @@ parts-text c soil h =
     (ap (rowsText m depthForm) e ∙ rows-front m depthForm (map pos a) (map pos b) l)
 
 module _ (c : Card) (soil : List ℤ) (b : List ℕ) where
-  pub wrote-none : given c ≡ false → Wrote c soil b (noText 12) b
-  wrote-none g = record { written = rw g; buffer = rw g }
+  abbrev Gives : Written → List ℕ → Type 0
+  Gives = Writes (cardChecks c soil b) (cardText c soil) b
 
-  module _ (g : given c ≡ true) where
-    pub wrote-long : (length soil ≡ c .cells * 5 → ⊥) → Wrote c soil b (noText 2) b
-    wrote-long h = record { written = rw (g, ne-eqb _ _ h); buffer = rw (g, ne-eqb _ _ h) }
+  abbrev Refuses : ℕ → Type 0
+  Refuses number = Gives (record { number = number; len = 0 }) b
+
+  pub wrote-none : hasText c ≡ false → Refuses malformed
+  wrote-none g = writes-none _ _ _ malformed (omega arith) (rw g)
+
+  module _ (g : hasText c ≡ true) where
+    pub wrote-long : (length soil ≡ c .cells * 5 → ⊥) → Refuses (refusalNumber BadLengths)
+    wrote-long h = writes-none _ _ _ (refusalNumber BadLengths) (omega arith) (rw (g, ne-eqb _ _ h))
 
     module _ (h : length soil ≡ c .cells * 5) where
-      ok-is : okRows (c .cells) soilForm soil ≡ rowsFit (c .cells) soilForm soil
-      ok-is = rows-fit (c .cells) soilForm soil h
+      pub wrote-odd : manyFit (c .cells) soilForm soil ≡ false → Refuses malformed
+      wrote-odd f = writes-none _ _ _ malformed (omega arith) (rw (g, eq-eqb _ _ h, f))
 
-      pub wrote-odd : rowsFit (c .cells) soilForm soil ≡ false → Wrote c soil b (noText 12) b
-      wrote-odd f = record { written = rw (g, eq-eqb _ _ h, ok-is, f); buffer = rw (g, eq-eqb _ _ h, ok-is, f) }
-
-      module _ (f : rowsFit (c .cells) soilForm soil ≡ true) (d : c .delays ≤ length (c .depths)) (n : ℕ)
+      module _ (f : manyFit (c .cells) soilForm soil ≡ true) (d : c .delays ≤ length (c .depths)) (n : ℕ)
           (e : n ≡ length (cardParts (pos (c .cells) ∷ pos (c .delays) ∷ []) (c .delays) (map pos (c .depths)) (c .cells) soil)) where
         e′ : n ≡ length (cardText c soil)
         e′ = e ∙ ap length (parts-text c soil d)
 
-        pub wrote-short : length b < n → Wrote c soil b (noText 12) b
-        wrote-short k =
-            let (x, y) = write-short (cardText c soil) b n e′ k in
-            record { written = rw (g, eq-eqb _ _ h, ok-is, f) x; buffer = rw (g, eq-eqb _ _ h, ok-is, f) y }
+        pub wrote-short : length b < n → Refuses malformed
+        wrote-short k = writes-none _ _ _ malformed (omega arith) (rw (g, eq-eqb _ _ h, f, no-room (cardText c soil) b n e′ k))
 
         pub wrote-all : (l : List ℕ) → n ≤ length b → l ≡ sets b 0 (cardParts (pos (c .cells) ∷ pos (c .delays) ∷ []) (c .delays) (map pos (c .depths)) (c .cells) soil)
-            → Wrote c soil b (record { number = 0; len = n }) l
-        wrote-all l k p =
-            let (x, y) = write-fits (cardText c soil) b l n e′ k (p ∙ ap (sets b 0) (parts-text c soil d)) in
-            record { written = rw (g, eq-eqb _ _ h, ok-is, f) x; buffer = rw (g, eq-eqb _ _ h, ok-is, f) y }
+            → Gives (record { number = 0; len = n }) l
+        wrote-all l k p = writes-all _ _ _ l n (rw (g, eq-eqb _ _ h, f, room (cardText c soil) b n e′ k)) e′ k (p ∙ ap (sets b 0) (parts-text c soil d))
 
--- ---- what `write_card` accepts is read back
-zero-drop : (m : ℕ) (l : List ℕ) → allZero l ≡ true → allZero (drop m l) ≡ true
-unfolding allZero
+-- ---- what `card::write` accepts is read back
+zeros-zero : (n : ℕ) → noneOf (map wordOf (replicate n (pos 0))) ≡ true
+zeros-zero zero = none-ends
+zeros-zero (suc n) = none-more 0 (map wordOf (replicate n (pos 0))) ∙ zeros-zero n
+
+zero-drop : (m : ℕ) (l : List ℕ) → noneOf l ≡ true → noneOf (drop m l) ≡ true
 zero-drop zero l e = e
 zero-drop (suc m) [] e = e
-zero-drop (suc m) (x ∷ l) e = zero-drop m l (and-2 (eqb x 0) (allZero l) e)
+zero-drop (suc m) (x ∷ l) e = zero-drop m l (and-2 (eqb x 0) (noneOf l) (sym (none-more x l) ∙ e))
 
-zero-same : (a b : List ℕ) → allZero a ≡ true → allZero b ≡ true → length a ≡ length b → a ≡ b
-unfolding allZero
+zero-same : (a b : List ℕ) → noneOf a ≡ true → noneOf b ≡ true → length a ≡ length b → a ≡ b
 zero-same [] [] p q l = refl
 zero-same [] (y ∷ b) p q l = absurd (omega arith)
 zero-same (x ∷ a) [] p q l = absurd (omega arith)
 zero-same (x ∷ a) (y ∷ b) p q l =
-    let e : x ≡ 0 = eqb-true x 0 (and-1 (eqb x 0) (allZero a) p) in
-    let g : y ≡ 0 = eqb-true y 0 (and-1 (eqb y 0) (allZero b) q) in
-    rw (e, g, zero-same a b (and-2 (eqb x 0) (allZero a) p) (and-2 (eqb y 0) (allZero b) q) (omega arith))
+    let p′ = sym (none-more x a) ∙ p in
+    let q′ = sym (none-more y b) ∙ q in
+    let e : x ≡ 0 = eqb-true x 0 (and-1 (eqb x 0) (noneOf a) p′) in
+    let g : y ≡ 0 = eqb-true y 0 (and-1 (eqb y 0) (noneOf b) q′) in
+    rw (e, g, zero-same a b (and-2 (eqb x 0) (noneOf a) p′) (and-2 (eqb y 0) (noneOf b) q′) (omega arith))
 
 map-drop : (m : ℕ) (vs : List ℤ) → map wordOf (drop m vs) ≡ drop m (map wordOf vs)
 map-drop zero vs = refl
@@ -348,20 +357,9 @@ small-back [] e = refl
 small-back (x ∷ ds) e =
     rw (and-1 (ltb x 4294967296) (allSmall (map pos ds)) e, small-back ds (and-2 (ltb x 4294967296) (allSmall (map pos ds)) e))
 
-given-parts : (c : Card) → given c ≡ true → (1 ≤ c .cells) × (allZero (drop (c .delays) (c .depths)) ≡ true)
-unfolding given
-given-parts c e = go (ltb (c .cells) 1) refl (ltb 256 (c .cells)) refl (ltb 30 (c .delays)) refl
-  where
-    go : (x : Bool) → ltb (c .cells) 1 ≡ x → (y : Bool) → ltb 256 (c .cells) ≡ y → (z : Bool) → ltb 30 (c .delays) ≡ z → (1 ≤ c .cells) × (allZero (drop (c .delays) (c .depths)) ≡ true)
-    go true p y q z r = absurd (false≢true (rw p at e))
-    go false p true q z r = absurd (false≢true (rw (p, q) at e))
-    go false p false q true r = absurd (false≢true (rw (p, q, r) at e))
-    go false p false q false r = (ltb-false (c .cells) 1 p, rw (p, q, r) at e)
-
-pub card-fits : (c : Card) (soil : List ℤ) → given c ≡ true → okRows (c .cells) soilForm soil ≡ true → length (c .depths) ≡ 30 → allSmall (map pos (c .depths)) ≡ true → CardFits c soil
-card-fits c soil g o l a =
-    let (mo, fe) = given-range c g in
-    let (so, ze) = given-parts c g in
+pub card-fits : (c : Card) (soil : List ℤ) → hasText c ≡ true → length soil ≡ c .cells * 5 → manyFit (c .cells) soilForm soil ≡ true → length (c .depths) ≡ 30 → allSmall (map pos (c .depths)) ≡ true → CardFits c soil
+card-fits c soil g n o l a =
+    let (so, mo, fe) = text-counts c g in
     let m : ℕ = c .delays in
     let t : List ℕ = take m (c .depths) in
     let at : allSmall (map pos t) ≡ true = small-take m (c .depths) a in
@@ -371,48 +369,44 @@ card-fits c soil g o l a =
     let r : List ℤ = drop (0 + length (map pos t)) z in
     let e : sets z 0 (map pos t) ≡ map pos t ++ r = sets-eq (map pos t) z 0 (omega arith) in
     let k : map wordOf r ≡ drop m (c .depths) =
-    zero-same (map wordOf r) (drop m (c .depths)) (rw (map-drop (0 + length (map pos t)) z) (zero-drop (0 + length (map pos t)) (map wordOf z) (unfold allZero in refl))) ze
+    zero-same (map wordOf r) (drop m (c .depths)) (rw (map-drop (0 + length (map pos t)) z) (zero-drop (0 + length (map pos t)) (map wordOf z) (zeros-zero 30))) (text-unused c g)
     (length-map r wordOf ∙ length-drop (0 + length (map pos t)) z ∙ (omega arith) ∙ sym (length-drop m (c .depths))) in
     record {
       some = so;
       most = mo;
       few = fe;
-      depths = rw lv at (rows-small depthForm refl refl (map pos t) at);
+      depths = rows-small m depthForm (map pos t) refl at;
       unused = rw (e, map-append wordOf (map pos t) r, small-back t at, k) (take-append-drop m (c .depths));
+      long = n;
       rows = o;
     }
 
 -- ---- what a reader accepts can be written again, and gives the very bytes it took
-zeros-zero : (n : ℕ) → allZero (map wordOf (replicate n (pos 0))) ≡ true
-unfolding allZero
-zeros-zero zero = refl
-zeros-zero (suc n) = zeros-zero n
-
 later-zeros : (k n : ℕ) → drop k (replicate n (pos 0)) ≡ replicate (n - k) (pos 0)
 later-zeros zero n = ap (λ (j : ℕ). replicate j (pos 0)) (sym (sub-zero n))
 later-zeros (suc k) zero = let e : 0 - suc k ≡ 0 = omega arith in rw e
 later-zeros (suc k) (suc n) = let e : suc n - suc k ≡ n - k = omega arith in rw e (later-zeros k n)
 
 -- the places of a card that a text leaves unused hold 0
-unused-zero : (vs : List ℤ) → length vs ≤ 30 → allZero (drop (length vs) (map wordOf (sets (replicate 30 (pos 0)) 0 vs))) ≡ true
+unused-zero : (vs : List ℤ) → length vs ≤ 30 → noneOf (drop (length vs) (map wordOf (sets (replicate 30 (pos 0)) 0 vs))) ≡ true
 unused-zero vs l =
     let z : List ℤ = replicate 30 (pos 0) in
     let e : sets z 0 vs ≡ vs ++ drop (length vs) z = sets-eq vs z 0 (omega (arith, length-replicate 30 (pos 0))) ∙ rw (zero-add (length vs)) in
     rw (e, ← map-drop (length vs) (vs ++ drop (length vs) z), drop-at vs (drop (length vs) z) (length vs) refl, later-zeros (length vs) 30) (zeros-zero (30 - length vs))
 
-pub card-given : (s : List ℕ) → parse s .line ≡ 0
-    → (given (parse s .card) ≡ true) × (length (parse s .soil) ≡ parse s .card .cells * 5) × (okRows (parse s .card .cells) soilForm (parse s .soil) ≡ true)
-unfolding parse given
-card-given s e =
+pub card-has-text : (s : List ℕ) → parse s .line ≡ 0
+    → (hasText (parse s .card) ≡ true) × (length (parse s .soil) ≡ parse s .card .cells * 5) × (manyFit (parse s .card .cells) soilForm (parse s .soil) ≡ true)
+unfolding parse hasText
+card-has-text s e =
     let g = all-good s e in
     let h = countsIn s in
     let d = depthsIn s in
     let hr = head-one s (g .0) in
     let dr = depths-one (h .delays) s (h .next) (hr .room) (g .1) in
     let mr = many-one (h .cells) soilForm s (d .next) refl (dr .room) (g .2) in
-    let u : allZero (drop (h .delays) (map wordOf (sets (replicate 30 (pos 0)) 0 (d .vals)))) ≡ true = rw (dr .count) at (unused-zero (d .vals) (omega (arith, dr .count, hr .few))) in
+    let u : noneOf (drop (h .delays) (map wordOf (sets (replicate 30 (pos 0)) 0 (d .vals)))) ≡ true = rw (dr .count) at (unused-zero (d .vals) (omega (arith, dr .count, hr .few))) in
     rw (g .0, g .1, g .2) (
-      rw (le-ltb (h .cells) 1 (hr .some), le-ltb 256 (h .cells) (hr .most), le-ltb 30 (h .delays) (hr .few)) u,
+      rw (counts-ok (h .cells) (h .delays) (hr .some) (hr .most) (hr .few)) u,
       many-length (h .cells) soilForm s (d .next) (g .2),
       mr .fits,
     )
@@ -441,16 +435,16 @@ module _ (s : List ℕ) (b : List ℤ) (room : 1280 ≤ length b) where
 
   pub result-soil : (v : List ℤ) → v ≡ soilResult (parse s) b → parse s .line ≡ 0 → take (5 * parse s .card .cells) v ≡ parse s .soil
   result-soil v e l =
-      let n = card-given s l .1 in
+      let n = card-has-text s l .1 in
       rw (e, eq-eqb (parse s .line) 0 l, le-ltb (length b) (parse s .card .cells * 5) (omega (arith, cells-most s l)))
       (take-at (parse s .soil) (drop (parse s .card .cells * 5) b) (5 * parse s .card .cells) (omega (arith, n)))
 
 -- the card and soil numbers that were read, written into a buffer with room, stand there as the very bytes that were taken
-pub card-again : (s b : List ℕ) → parse s .line ≡ 0 → length (take (parse s .next) s) ≤ length b → (w : Written) (after : List ℕ) → Wrote (parse s .card) (parse s .soil) b w after
+pub card-again : (s b : List ℕ) → parse s .line ≡ 0 → length (take (parse s .next) s) ≤ length b → (w : Written) (after : List ℕ)
+    → Writes (cardChecks (parse s .card) (parse s .soil) b) (cardText (parse s .card) (parse s .soil)) b w after
     → (w ≡ record { number = 0; len = length (take (parse s .next) s) }) × (after ≡ take (parse s .next) s ++ drop (length (take (parse s .next) s)) b)
 card-again s b e l w after g =
-    let p = card-given s e in
+    let (p, n, f) = card-has-text s e in
     let t = card-one s e in
-    let k : leb (length (take (parse s .next) s)) (length b) ≡ true = le-leb _ _ l in
-    let q : eqb (length (parse s .soil)) (parse s .card .cells * 5) ≡ true = eq-eqb _ _ (p .1) in
-    (g .written ∙ rw (p .0, q, p .2, ← t, k), g .buffer ∙ rw (p .0, q, p .2, ← t, k))
+    let k : fitsIn (cardText (parse s .card) (parse s .soil)) b ≡ true = rw (← t) (le-leb _ _ l) in
+    rw t (writes-text (cardChecks (parse s .card) (parse s .soil) b) (cardText (parse s .card) (parse s .soil)) b w after g (rw (p, eq-eqb _ _ n, f, k)))

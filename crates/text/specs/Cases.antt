@@ -14,6 +14,7 @@ use Rattle.form.specs.Many.{manyAt, rowsText}
 use Rattle.cell.specs.declared.Answer.the-variants.{Accepted, Refused}
 use Rattle.cell.specs.declared.Card.{Card}
 use Rattle.cell.specs.declared.Refusal.the-variants.{Old}
+use Rattle.cell.specs.Ranges.{countsOk}
 use Rattle.cell.specs.Water.{water, net}
 use Rattle.text.specs.Readings.{readReading}
 use Rattle.text.specs.Cards.{parse, countsOf, rangeCounts, depthsAt, cardText}
@@ -34,7 +35,7 @@ unfolding card soil card-line cardText formText rowsText valText dec decF
 card-text = refl
 
 pub card-read : (parse card-line .line ≡ 0) × (parse card-line .card ≡ card) × (parse card-line .soil ≡ soil)
-unfolding card soil card-line parse countsOf rangeCounts depthsAt manyAt formAt valAt byteAt numAt numStart numGo hexAt hexGo
+unfolding card soil card-line parse countsOf rangeCounts countsOk depthsAt manyAt formAt valAt byteAt numAt numStart numGo hexAt hexGo
 card-read = (refl, refl, refl)
 
 -- the first reading
@@ -50,13 +51,13 @@ reading-read = refl
 abbrev number-of : String → ℕ
 number-of t = readReading (bytes t) .number
 
-pub malformed : (number-of "cell=0 life=00 count=0 rain=50800 irrig=0 septic=1000 etmin=2000 pet=5000 amc=2 head=410c0000\n" ≡ 12)
+pub malformed-readings : (number-of "cell=0 life=00 count=0 rain=50800 irrig=0 septic=1000 etmin=2000 pet=5000 amc=2 head=410c0000\n" ≡ 12)
     × (number-of "cell=-0 life=0 count=0 rain=50800 irrig=0 septic=1000 etmin=2000 pet=5000 amc=2 head=410c0000\n" ≡ 12)
     × (number-of "cell=0 life=0 count=0 rain=4294967296 irrig=0 septic=1000 etmin=2000 pet=5000 amc=2 head=410c0000\n" ≡ 12)
     × (number-of "cell=0 life=0 count=0 rain=50800 irrig=0 septic=1000 etmin=2000 pet=5000 amc=2 head=410C0000\n" ≡ 12)
     × (number-of "cell=0 life=0 count=0 rain=4294967295 irrig=0 septic=1000 etmin=2000 pet=5000 amc=2 head=7fc00001\n" ≡ 0)
 unfolding readReading formAt valAt byteAt numAt numStart numGo hexAt hexGo
-malformed = (refl, refl, refl, refl, refl)
+malformed-readings = (refl, refl, refl, refl, refl)
 
 -- what the program prints for them: three answers and the sheet; and a negative recharge
 pub printed : (answerText 0 (Accepted (record { inflow = water 51800; runoff = water 14287; etvad = water 2000; etstor = water 0; etsat = water 500; drain = water 0; release = water 0; stored = water 34513; recharge = net (pos 500); left = water 34513 }))

@@ -6,8 +6,11 @@ pub mod Cards
 pub mod Printed
 pub mod Cases
 -- laws of these
+pub mod WrittenLaws
 pub mod ReadingLaws
 pub mod CardLaws
 pub mod CardTexts
+pub mod CardEnds
+pub mod BehindLaws
 pub mod LineLaws
 pub mod PrintLaws

@@ -16,7 +16,7 @@ use Rattle.cell.specs.declared.Answer.{Answer}
 use Rattle.cell.specs.Refusals.{numberOf, amountsOf}
 use Rattle.cell.specs.CheckLaws.{number-most}
 use Rattle.site.specs.declared.Sheet.{Sheet}
-use Rattle.site.specs.SheetLaws.{AmountsWithin, Kept}
+use Rattle.site.specs.SheetLaws.{AmountsWithin, SheetIn}
 use Rattle.form.specs.Words.{word-lt}
 use Rattle.text.specs.Lines.{readingForm, answerForm, sheetForm}
 use Rattle.text.specs.Readings.{readReading, valsOf, textOf}
@@ -53,7 +53,7 @@ answer-most cell answer c w =
     (omega arith, (omega (arith, number-most answer), (omega (arith, w .inflow), (omega (arith, w .runoff), (omega (arith, w .etvad), (omega (arith, w .etstor), (omega (arith, w .etsat), (omega (arith, w .drain), (omega (arith, w .release), (omega (arith, w .stored), (omega (arith, w .recharge), (omega (arith, w .left), tt))))))))))))
 
 -- the sheet's line has 289 bytes at the most
-pub sheet-most : (s : Sheet) → Kept s → length (sheetText s) ≤ 289
+pub sheet-most : (s : Sheet) → SheetIn s → length (sheetText s) ≤ 289
 unfolding sheetText
 sheet-most s h =
     let k = h .sums in

@@ -1,5 +1,5 @@
 -- What the site answers, and what adding has made, can be printed. Assumes nothing.
-use mathlib.Core.Path.{_≡_, ap, _∙_}
+use mathlib.Core.Path.{_≡_, ap}
 use mathlib.Core.Bool.{Bool, true}
 use mathlib.Core.List.{List, _++_}
 use Prim.Native.Nat.{ℕ, _*_, _≤_}
@@ -9,9 +9,11 @@ use lib.Dec.{leb}
 use lib.ListN.{length, drop}
 use Rattle.cell.specs.declared.Amounts.{Amounts}
 use Rattle.site.specs.declared.Sheet.{Sheet}
-use Rattle.site.specs.SheetLaws.{AmountsWithin, Kept}
+use Rattle.site.specs.SheetLaws.{AmountsWithin, SheetIn}
 use Rattle.text.specs.declared.Written.{Written}
-use Rattle.text.specs.Printed.{most, amountsPrintable, sheetPrintable, Prints}
+use Rattle.text.specs.Printed.{most, amountsPrintable, sheetPrintable, lineChecks}
+use Rattle.text.specs.Written.{fitsIn, Writes}
+use Rattle.text.specs.WrittenLaws.{writes-text}
 
 fits : (n m : ℕ) → n ≤ m → m ≤ most → leb n most ≡ true
 fits n m h k = le-leb n most (omega arith)
@@ -59,7 +61,7 @@ amounts-printable a h =
     (fits _ _ (h .stored) q)
     (fits _ _ (h .left) q)
 
-pub sheet-printable : (s : Sheet) → Kept s → sheetPrintable s ≡ true
+pub sheet-printable : (s : Sheet) → SheetIn s → sheetPrintable s ≡ true
 sheet-printable s h =
     let k = h .sums in
     let q : 30000000000 * s .steps ≤ most = omega (arith, h .steps) in
@@ -75,7 +77,8 @@ sheet-printable s h =
     (fits _ _ (k .stored) q)
 
 -- a text that can be printed and has room stands at the buffer's start
-pub prints-text : (p : Bool) (t b : List ℕ) (w : Written) (after : List ℕ) → Prints p t b w after → p ≡ true → length t ≤ length b → (w .len ≡ length t) × (after ≡ t ++ drop (length t) b)
+pub prints-text : (p : Bool) (t b : List ℕ) (w : Written) (after : List ℕ) → Writes (lineChecks p t b) t b w after → p ≡ true → length t ≤ length b → (w .len ≡ length t) × (after ≡ t ++ drop (length t) b)
 prints-text p t b w after h e l =
-    let k : leb (length t) (length b) ≡ true = le-leb _ _ l in
-    (ap (λ (x : Written). x .len) (h .written) ∙ rw (e, k), h .buffer ∙ rw (e, k))
+    let k : fitsIn t b ≡ true = le-leb _ _ l in
+    let (x, y) = writes-text (lineChecks p t b) t b w after h (rw (e, k)) in
+    (ap (λ (x : Written). x .len) x, y)

@@ -1,18 +1,16 @@
 -- The lines that the program prints: one for an answer, one for the sheet. Definitions only.
 use Prim.Native.Nat.{ℕ}
-use mathlib.Core.Path.{_≡_}
-use mathlib.Core.Bool.{Bool, cond, _&&_}
+use mathlib.Core.Bool.{Bool, _&&_}
 use mathlib.Core.List.{List, [], _∷_}
 use lib.Dec.{leb}
 use lib.IntN.{ℤ, pos}
 use Rattle.form.specs.Form.{formText}
 use Rattle.cell.specs.declared.Amounts.{Amounts}
 use Rattle.cell.specs.declared.Answer.{Answer}
-use Rattle.cell.specs.Refusals.{numberOf, amountsOf}
+use Rattle.cell.specs.Refusals.{malformed, numberOf, amountsOf}
 use Rattle.site.specs.declared.Sheet.{Sheet}
-use Rattle.text.specs.declared.Written.{Written}
 use Rattle.text.specs.Lines.{answerForm, sheetForm}
-use Rattle.text.specs.Written.{noText, writtenOf, bufferOf}
+use Rattle.text.specs.Written.{fitsIn}
 
 -- cell as read, number, the ten amounts
 abbrev pub answerVals : ℕ → ℕ → Amounts → List ℤ
@@ -83,7 +81,6 @@ sheetPrintable s =
     && leb (s .release .0) most
     && leb (s .stored .0) most
 
--- what printing a text gives, and the buffer at exit
-pub record Prints (printable : Bool) (text buf : List ℕ) (w : Written) (after : List ℕ) : Type 0 where
-  pub written : w ≡ cond printable (writtenOf text buf) (noText 12)
-  pub buffer : after ≡ cond printable (bufferOf text buf) buf
+-- the checks of a printed line: whether it can be written, and the room for it
+abbrev pub lineChecks : Bool → List ℕ → List ℕ → List (ℕ × Bool)
+lineChecks printable t b = (malformed, printable) ∷ (malformed, fitsIn t b) ∷ []

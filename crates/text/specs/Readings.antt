@@ -1,17 +1,19 @@
--- Readings as text: what reading one finds, and its one text. Definitions only.
+-- Readings as text: what reading one finds, its one text, and what writing one checks. Definitions only.
 use Prim.Native.Nat.{ℕ}
 use mathlib.Core.Path.{_≡_}
 use mathlib.Core.List.{List, [], _∷_}
-use mathlib.Core.Bool.{cond}
+use mathlib.Core.Bool.{Bool, cond}
 use lib.ListN.{getD}
 use lib.IntN.{ℤ, pos}
 use Rattle.head.specs.declared.Carried.{Carried}
 use Rattle.head.specs.Pattern.{patternOf, carriedOf}
 use Rattle.cell.specs.declared.Reading.{Reading}
+use Rattle.cell.specs.Refusals.{malformed}
 use Rattle.text.specs.declared.reading.ReadingRead.{ReadingRead}
 use Rattle.form.specs.Form.{Out, formAt, formText}
 use Rattle.text.specs.Lines.{readingForm}
 use Rattle.form.specs.Words.{wordOf}
+use Rattle.text.specs.Written.{fitsIn}
 
 -- the head of a reading, as it is carried
 abbrev pub carried : Reading → Carried
@@ -76,7 +78,11 @@ textOf r = formText readingForm (valsOf r)
 -- what reading a reading at the start of s gives
 abbrev pub resultOf : Out → ReadingRead
 resultOf o =
-    cond (o .ok) (record { number = 0; taken = o .next; line = 0; reading = fieldsOf (o .vals) }) (record { number = 12; taken = 0; line = 1; reading = fieldsOf [] })
+    cond (o .ok) (record { number = 0; taken = o .next; line = 0; reading = fieldsOf (o .vals) }) (record { number = malformed; taken = 0; line = 1; reading = fieldsOf [] })
 
 unfoldable pub readReading : List ℕ → ReadingRead
 readReading s = resultOf (formAt readingForm s 0)
+
+-- writing a reading knows only the short buffer
+abbrev pub readingChecks : Reading → List ℕ → List (ℕ × Bool)
+readingChecks r b = (malformed, fitsIn (textOf r) b) ∷ []

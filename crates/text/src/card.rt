@@ -1,26 +1,28 @@
 // A card as text: one line, then a line per cell.
 ghost use mathlib.Core.Path.{_≡_};
-ghost use mathlib.Core.List.{[], _∷_, _++_, map};
-ghost use Prim.Native.Nat.{_+_, _*_, _≤_, _<_};
+ghost use mathlib.Core.List.{[], _∷_, map};
+ghost use Prim.Native.Nat.{_*_, _≤_};
 ghost use lib.IntN.{pos};
-ghost use lib.ListN.{length, drop, take};
+ghost use lib.ListN.{length, drop};
 ghost use lib.Seq.{sets};
+ghost use Rattle.cell.specs.Ranges.{countsOk, noneOf};
 ghost use Rattle.form.specs.Form.{takenOf};
 ghost use Rattle.form.specs.Words.{wordOf};
-ghost use Rattle.text.specs.Cards.{rangeCounts, countsOf, depthsAt, refusedCard, parse, cardResult, soilResult, allZero, given, cardParts, Wrote};
+ghost use Rattle.text.specs.Cards.{rangeCounts, countsOf, depthsAt, refusedCard, parse, cardResult, soilResult, cardText, hasText, cardParts, cardChecks};
+ghost use Rattle.text.specs.Written.{Writes};
 use crate::Written;
 use cell::Card;
 use form::line::Taken;
 use form::line::form_len;
 use form::line::put_form;
 use form::line::read_form;
+use form::lines::many_fit;
 use form::lines::many_len;
 use form::lines::pass_many;
 use form::lines::put_many;
 use form::lines::read_many;
-use form::lines::rows_fit;
-use form::value::byte_at;
-use form::value::word_at;
+use form::words::byte_at;
+use form::words::word_at;
 
 const CARD: [u8; 16] = *b"cells=# delays=#";
 
@@ -44,29 +46,38 @@ pub struct Counts {
     pub delays: u32,
 }
 
+// Whether a card may have that many cells and delays.
+fn counts_ok(cells: u32, delays: u32) -> bool
+    ensures { λ r. ⌜ r ≡ countsOk cells delays ⌝ }
+{
+    if cells < 1 {
+        return false;
+    }
+    if 256 < cells {
+        return false;
+    }
+    if 30 < delays {
+        return false;
+    }
+    true
+}
+
 fn range_counts(next: usize, cells: u32, delays: u32) -> Counts
     ensures { λ r. ⌜ r ≡ rangeCounts next cells delays ⌝ }
 {
-    let none = Counts {
+    if counts_ok(cells, delays) {
+        return Counts {
+            ok: true,
+            next,
+            cells,
+            delays,
+        };
+    }
+    Counts {
         ok: false,
         next: 0,
         cells: 0,
         delays: 0,
-    };
-    if cells < 1 {
-        return none;
-    }
-    if 256 < cells {
-        return none;
-    }
-    if 30 < delays {
-        return none;
-    }
-    Counts {
-        ok: true,
-        next,
-        cells,
-        delays,
     }
 }
 
@@ -177,7 +188,7 @@ pub fn read(s: &[u8], soil: &mut [i64]) -> CardRead
 
 // Whether all numbers from `from` on are 0.
 fn zero_from(d: &[u32], from: usize) -> bool
-    ensures { λ r. ⌜ r ≡ allZero (drop from (now (d .entry))) ⌝ }
+    ensures { λ r. ⌜ r ≡ noneOf (drop from (now (d .entry))) ⌝ }
 {
     let mut k = from;
     while k < d.len() {
@@ -211,20 +222,14 @@ fn count_values(cells: u32, delays: u32) -> [i64; 2]
 }
 
 // Whether some text gives the card.
-fn card_given(card: Card) -> bool
-    ensures { λ r. ⌜ r ≡ given card ⌝ }
+fn has_text(card: Card) -> bool
+    ensures { λ r. ⌜ r ≡ hasText card ⌝ }
 {
-    if card.cells < 1 {
-        return false;
+    if counts_ok(card.cells, card.delays) {
+        let d = card.depths;
+        return zero_from(&d, card.delays as usize);
     }
-    if 256 < card.cells {
-        return false;
-    }
-    if 30 < card.delays {
-        return false;
-    }
-    let d = card.depths;
-    zero_from(&d, card.delays as usize)
+    false
 }
 
 // The length of a card's text: the first line's values h, m depths ds and n rows of soil.
@@ -252,12 +257,12 @@ fn put_card(h: &[i64], m: usize, ds: &[i64], n: usize, soil: &[i64], buf: &mut [
 
 // Writes a card with its soil numbers at the start of buf.
 pub fn write(card: Card, soil: &[i64], buf: &mut [u8]) -> Written
-    ensures { λ w. ⌜ Wrote card (now (soil .entry)) (now (buf .entry)) w (now (buf .exit)) ⌝ }
+    ensures { λ w. ⌜ Writes (cardChecks card (now (soil .entry)) (now (buf .entry))) (cardText card (now (soil .entry))) (now (buf .entry)) w (now (buf .exit)) ⌝ }
 {
-    if card_given(card) {
+    if has_text(card) {
         let n = card.cells as usize;
         if soil.len() == n * 5 {
-            if rows_fit(&SOIL, 5, n, soil, 0) {
+            if many_fit(&SOIL, 5, n, soil, 0) {
                 let m = card.delays as usize;
                 let d = card.depths;
                 let h = count_values(card.cells, card.delays);

@@ -2,7 +2,8 @@
 ghost use mathlib.Core.Path.{_≡_};
 ghost use mathlib.Core.Bool.{true};
 ghost use Rattle.cell.specs.Refusals.{amountsOf};
-ghost use Rattle.text.specs.Printed.{answerVals, lineText, answerText, sheetVals, sheetText, amountsPrintable, sheetPrintable, Prints};
+ghost use Rattle.text.specs.Printed.{answerVals, lineText, answerText, sheetVals, sheetText, amountsPrintable, sheetPrintable, lineChecks};
+ghost use Rattle.text.specs.Written.{Writes};
 use crate::Written;
 use crate::put_line;
 use cell::Amounts;
@@ -94,7 +95,7 @@ fn sheet_values(s: Sheet) -> [i64; 10]
 
 // Writes the line of a cell, a number and ten amounts at the start of buf.
 pub fn line(cell: u32, number: u32, a: Amounts, buf: &mut [u8]) -> Written
-    ensures { λ w. ⌜ Prints (amountsPrintable a) (lineText cell number a) (now (buf .entry)) w (now (buf .exit)) ⌝ }
+    ensures { λ w. ⌜ Writes (lineChecks (amountsPrintable a) (lineText cell number a) (now (buf .entry))) (lineText cell number a) (now (buf .entry)) w (now (buf .exit)) ⌝ }
 {
     if !amounts_printable(a) {
         return Written { number: 12, len: 0 };
@@ -105,14 +106,14 @@ pub fn line(cell: u32, number: u32, a: Amounts, buf: &mut [u8]) -> Written
 
 // Writes the line of an answer for a cell at the start of buf.
 pub fn answer(cell: u32, answer: Answer, buf: &mut [u8]) -> Written
-    ensures { λ w. ⌜ Prints (amountsPrintable (amountsOf answer)) (answerText cell answer) (now (buf .entry)) w (now (buf .exit)) ⌝ }
+    ensures { λ w. ⌜ Writes (lineChecks (amountsPrintable (amountsOf answer)) (answerText cell answer) (now (buf .entry))) (answerText cell answer) (now (buf .entry)) w (now (buf .exit)) ⌝ }
 {
     line(cell, cell::number_of(answer), cell::amounts_of(answer), buf)
 }
 
 // Writes the line of a sheet at the start of buf.
 pub fn sheet(s: Sheet, buf: &mut [u8]) -> Written
-    ensures { λ w. ⌜ Prints (sheetPrintable s) (sheetText s) (now (buf .entry)) w (now (buf .exit)) ⌝ }
+    ensures { λ w. ⌜ Writes (lineChecks (sheetPrintable s) (sheetText s) (now (buf .entry))) (sheetText s) (now (buf .entry)) w (now (buf .exit)) ⌝ }
 {
     if !sheet_printable(s) {
         return Written { number: 12, len: 0 };

@@ -5,14 +5,14 @@ ghost use lib.ListN.{length};
 ghost use lib.Seq.{sets};
 ghost use Rattle.form.specs.Form.{formAt, takenOf};
 ghost use Rattle.text.specs.Lines.{readingForm};
-ghost use Rattle.text.specs.Readings.{textOf, readReading, fieldsOf, valsOf};
-ghost use Rattle.text.specs.Written.{writtenOf, bufferOf};
+ghost use Rattle.text.specs.Readings.{textOf, readReading, fieldsOf, valsOf, readingChecks};
+ghost use Rattle.text.specs.Written.{Writes};
 use crate::Written;
 use crate::put_line;
 use cell::Reading;
 use form::line::Taken;
 use form::line::read_form;
-use form::value::word_at;
+use form::words::word_at;
 use head::Carried;
 
 const READING: [u8; 73] =
@@ -124,7 +124,7 @@ fn reading_values(r: Reading) -> [i64; 10]
 
 // Writes a reading's line at the start of buf.
 pub fn write(r: Reading, buf: &mut [u8]) -> Written
-    ensures { λ w. ⌜ (w ≡ writtenOf (textOf r) (now (buf .entry))) × (now (buf .exit) ≡ bufferOf (textOf r) (now (buf .entry))) ⌝ }
+    ensures { λ w. ⌜ Writes (readingChecks r (now (buf .entry))) (textOf r) (now (buf .entry)) w (now (buf .exit)) ⌝ }
 {
     let v = reading_values(r);
     put_line(&READING, &v, buf)

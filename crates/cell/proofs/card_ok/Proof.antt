@@ -1,5 +1,6 @@
 -- `cell::card_ok` meets its contract. Assumes nothing.
-use Rattle.cell.specs.Ranges.{cardOk}
+use Rattle.cell.specs.Ranges.{countsOk, cardOk}
+use Rattle.cell.specs.RangeLaws.{many-delays}
 use lib.Dec.{leb}
 use borrow.Author.Tests.{le-leb, lt-leb}
 use mathlib.Core.Bool.{_&&_, and-true, and-false}
@@ -10,14 +11,16 @@ use Rattle.cell.proofs.card_ok.Tie as tie
 
 returns : tie.Need-returns
 unfolding cardOk
-returns c = sym (rw (lt-leb _ 30 (c .if1 .taken), and-false (leb 1 (c .before .before .args .card .cells) && leb (c .before .before .args .card .cells) 256)))
+returns c = let a = c .before .before .args .card in sym (rw (many-delays (a .cells) (a .delays) (c .if1 .taken)))
 
 depths-ok-requires : tie.Need-depths-ok-requires
 depths-ok-requires c κs = search needs
 
 returns-2 : tie.Need-returns-2
-unfolding cardOk
-returns-2 c = rw (c .before .before .depths-ok .ensures, le-leb _ 30 (c .before .before .before .before .if1 .left), and-true (leb 1 (c .before .before .before .before .before .before .args .card .cells) && leb (c .before .before .before .before .before .before .args .card .cells) 256))
+unfolding countsOk cardOk
+returns-2 c =
+    let a = c .before .before .before .before .before .before .args .card in
+    rw (c .before .before .depths-ok .ensures, le-leb _ 30 (c .before .before .before .before .if1 .left), and-true (leb 1 (a .cells) && leb (a .cells) 256))
 
 pub card-ok-spec : {M : Type 1} → statement M
 card-ok-spec = tie.close (tie.spec returns depths-ok-requires returns-2)

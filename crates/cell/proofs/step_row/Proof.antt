@@ -26,14 +26,14 @@ module _ (card : Card) (soil : List ℤ) (row : List ℕ) (r : Reading) {v : Ver
   unfolding answerOf newRow judged
   refused {why} e =
       let h : verdictOf card soil row r ≡ Bad why = sym is ∙ e in
-      record { answer-is = rw h; row-is = rw h }
+      record { answer-is = rw h; number-is = rw h; amounts-are = rw h; row-is = rw h }
 
   accepted : {d : Depth} → v ≡ Fine d → {s : Soil} → s ≡ soilOf soil → {a : Amounts} {after : List ℕ} → a ≡ stepAmounts card s r d (queueOf (card .delays) row) → after ≡ rowAfter card s r d row
       → StepGives card soil row r (Accepted a) after
   unfolding answerOf newRow judged
   accepted {d} e es ea er =
       let h : verdictOf card soil row r ≡ Fine d = sym is ∙ e in
-      record { answer-is = rw (h, ea, es); row-is = rw (h, er, es) }
+      record { answer-is = rw (h, ea, es); number-is = rw h; amounts-are = rw (h, ea, es); row-is = rw (h, er, es) }
 
 judge-requires : tie.Need-judge-requires
 judge-requires c κs = search needs

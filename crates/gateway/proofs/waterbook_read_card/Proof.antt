@@ -1,21 +1,20 @@
 -- `gateway::waterbook_read_card` meets its contract. Assumes nothing.
+use Rattle.gateway.proofs.Shaped.{card-ill, card-given}
 use Rattle.form.specs.Put.{sets-all}
-use Rattle.gateway.specs.Shapes.{cardNumbers}
-use Rattle.text.specs.declared.card.CardRead.{CardRead}
 use mathlib.Core.List.{[], _∷_}
-use lib.ListN.{length, length-set}
+use lib.ListN.{length-set}
 use borrow.Author.Tests.{eq-eqb, ne-eqb}
-use mathlib.Core.Path.{sym, ap, _∙_}
+use mathlib.Core.Path.{sym}
 use native.Mathlib.Omega.{arith}
 use borrow.Author.Needs.{needs}
 use Rattle.gateway.proofs.waterbook_read_card.Statement.{statement}
 use Rattle.gateway.proofs.waterbook_read_card.Tie as tie
 
 returns : tie.Need-returns
-returns c = record { number-is = rw (ne-eqb (length (c .before .before .before .before .args .card .now)) 32 (c .if1 .taken)); card-is = rw (ne-eqb (length (c .before .before .before .before .args .card .now)) 32 (c .if1 .taken)); soil-is = rw (ne-eqb (length (c .before .before .before .before .args .card .now)) 32 (c .if1 .taken)); got-is = rw (ne-eqb (length (c .before .before .before .before .args .card .now)) 32 (c .if1 .taken)) }
+returns c = card-ill (rw (ne-eqb _ _ (c .if1 .taken)))
 
 returns-2 : tie.Need-returns-2
-returns-2 c = record { number-is = rw (eq-eqb (length (c .before .before .before .before .before .args .card .now)) 32 (c .before .if1 .left), ne-eqb (length (c .before .before .before .before .before .args .got .now)) 2 (c .if2 .taken)); card-is = rw (eq-eqb (length (c .before .before .before .before .before .args .card .now)) 32 (c .before .if1 .left), ne-eqb (length (c .before .before .before .before .before .args .got .now)) 2 (c .if2 .taken)); soil-is = rw (eq-eqb (length (c .before .before .before .before .before .args .card .now)) 32 (c .before .if1 .left), ne-eqb (length (c .before .before .before .before .before .args .got .now)) 2 (c .if2 .taken)); got-is = rw (eq-eqb (length (c .before .before .before .before .before .args .card .now)) 32 (c .before .if1 .left), ne-eqb (length (c .before .before .before .before .before .args .got .now)) 2 (c .if2 .taken)) }
+returns-2 c = card-ill (rw (eq-eqb _ _ (c .before .if1 .left), ne-eqb _ _ (c .if2 .taken)))
 
 read-requires : tie.Need-read-requires
 read-requires c κs = search needs
@@ -39,7 +38,14 @@ same-length-3 : tie.Need-same-length-3
 same-length-3 c = search needs
 
 returns-3 : tie.Need-returns-3
-returns-3 c = record { number-is = rw (eq-eqb (length (c .before .before .before .before .before .before .before .before .before .before .before .before .args .card .now)) 32 (c .before .before .before .before .before .before .before .before .if1 .left), eq-eqb (length (c .before .before .before .before .before .before .before .before .before .before .before .before .args .got .now)) 2 (c .before .before .before .before .before .before .before .if2 .left)) (ap (λ (y : CardRead). y .number) (c .before .before .before .before .before .read .ensures .0)); card-is = rw (eq-eqb (length (c .before .before .before .before .before .before .before .before .before .before .before .before .args .card .now)) 32 (c .before .before .before .before .before .before .before .before .if1 .left), eq-eqb (length (c .before .before .before .before .before .before .before .before .before .before .before .before .args .got .now)) 2 (c .before .before .before .before .before .before .before .if2 .left)) (c .before .before .put-card .ensures ∙ ap (λ (y : CardRead). cardNumbers (y .card)) (c .before .before .before .before .before .read .ensures .0)); soil-is = rw (eq-eqb (length (c .before .before .before .before .before .before .before .before .before .before .before .before .args .card .now)) 32 (c .before .before .before .before .before .before .before .before .if1 .left), eq-eqb (length (c .before .before .before .before .before .before .before .before .before .before .before .before .args .got .now)) 2 (c .before .before .before .before .before .before .before .if2 .left)) (c .before .before .before .before .before .read .ensures .1); got-is = rw (eq-eqb (length (c .before .before .before .before .before .before .before .before .before .before .before .before .args .card .now)) 32 (c .before .before .before .before .before .before .before .before .if1 .left), eq-eqb (length (c .before .before .before .before .before .before .before .before .before .before .before .before .args .got .now)) 2 (c .before .before .before .before .before .before .before .if2 .left)) (sets-all (c .before .before .before .before .before .before .before .before .before .before .before .before .args .got .now) (c .before .before .before .before .before .read .result .taken ∷ c .before .before .before .before .before .read .result .line ∷ []) (sym (c .before .before .before .before .before .before .before .if2 .left)) ∙ ap (λ (y : CardRead). y .taken ∷ y .line ∷ []) (c .before .before .before .before .before .read .ensures .0)) }
+returns-3 c =
+    let r = c .before .before .before .before .before .read in
+    card-given
+    (rw (eq-eqb _ _ (c .before .before .before .before .before .before .before .before .if1 .left), eq-eqb _ _ (c .before .before .before .before .before .before .before .if2 .left)))
+    (r .ensures .0)
+    (c .before .before .put-card .ensures)
+    (r .ensures .1)
+    (sets-all (c .before .before .before .before .before .before .before .before .before .before .before .before .args .got .now) (r .result .taken ∷ r .result .line ∷ []) (sym (c .before .before .before .before .before .before .before .if2 .left)))
 
 pub waterbook-read-card-spec : {M : Type 1} → statement M
 waterbook-read-card-spec =

@@ -1,21 +1,20 @@
 -- `gateway::waterbook_read_reading` meets its contract. Assumes nothing.
+use Rattle.gateway.proofs.Shaped.{reading-ill, reading-given}
 use Rattle.form.specs.Put.{sets-all}
-use Rattle.gateway.specs.Shapes.{readingNumbers}
-use Rattle.text.specs.declared.reading.ReadingRead.{ReadingRead}
 use mathlib.Core.List.{[], _∷_}
-use lib.ListN.{length, length-set}
+use lib.ListN.{length-set}
 use borrow.Author.Tests.{eq-eqb, ne-eqb}
-use mathlib.Core.Path.{sym, ap, _∙_}
+use mathlib.Core.Path.{sym}
 use native.Mathlib.Omega.{arith}
 use borrow.Author.Needs.{needs}
 use Rattle.gateway.proofs.waterbook_read_reading.Statement.{statement}
 use Rattle.gateway.proofs.waterbook_read_reading.Tie as tie
 
 returns : tie.Need-returns
-returns c = record { number-is = rw (ne-eqb (length (c .before .before .before .before .args .reading .now)) 10 (c .if1 .taken)); reading-is = rw (ne-eqb (length (c .before .before .before .before .args .reading .now)) 10 (c .if1 .taken)); got-is = rw (ne-eqb (length (c .before .before .before .before .args .reading .now)) 10 (c .if1 .taken)) }
+returns c = reading-ill (rw (ne-eqb _ _ (c .if1 .taken)))
 
 returns-2 : tie.Need-returns-2
-returns-2 c = record { number-is = rw (eq-eqb (length (c .before .before .before .before .before .args .reading .now)) 10 (c .before .if1 .left), ne-eqb (length (c .before .before .before .before .before .args .got .now)) 2 (c .if2 .taken)); reading-is = rw (eq-eqb (length (c .before .before .before .before .before .args .reading .now)) 10 (c .before .if1 .left), ne-eqb (length (c .before .before .before .before .before .args .got .now)) 2 (c .if2 .taken)); got-is = rw (eq-eqb (length (c .before .before .before .before .before .args .reading .now)) 10 (c .before .if1 .left), ne-eqb (length (c .before .before .before .before .before .args .got .now)) 2 (c .if2 .taken)) }
+returns-2 c = reading-ill (rw (eq-eqb _ _ (c .before .if1 .left), ne-eqb _ _ (c .if2 .taken)))
 
 read-requires : tie.Need-read-requires
 read-requires c κs = search needs
@@ -36,7 +35,13 @@ same-length-2 : tie.Need-same-length-2
 same-length-2 c = search needs
 
 returns-3 : tie.Need-returns-3
-returns-3 c = record { number-is = rw (eq-eqb (length (c .before .before .before .before .before .before .before .before .before .before .args .reading .now)) 10 (c .before .before .before .before .before .before .if1 .left), eq-eqb (length (c .before .before .before .before .before .before .before .before .before .before .args .got .now)) 2 (c .before .before .before .before .before .if2 .left)) (ap (λ (y : ReadingRead). y .number) (c .before .before .before .before .read .ensures)); reading-is = rw (eq-eqb (length (c .before .before .before .before .before .before .before .before .before .before .args .reading .now)) 10 (c .before .before .before .before .before .before .if1 .left), eq-eqb (length (c .before .before .before .before .before .before .before .before .before .before .args .got .now)) 2 (c .before .before .before .before .before .if2 .left)) (c .before .before .put-reading .ensures ∙ ap (λ (y : ReadingRead). readingNumbers (y .reading)) (c .before .before .before .before .read .ensures)); got-is = rw (eq-eqb (length (c .before .before .before .before .before .before .before .before .before .before .args .reading .now)) 10 (c .before .before .before .before .before .before .if1 .left), eq-eqb (length (c .before .before .before .before .before .before .before .before .before .before .args .got .now)) 2 (c .before .before .before .before .before .if2 .left)) (sets-all (c .before .before .before .before .before .before .before .before .before .before .args .got .now) (c .before .before .before .before .read .result .taken ∷ c .before .before .before .before .read .result .line ∷ []) (sym (c .before .before .before .before .before .if2 .left)) ∙ ap (λ (y : ReadingRead). y .taken ∷ y .line ∷ []) (c .before .before .before .before .read .ensures)) }
+returns-3 c =
+    let r = c .before .before .before .before .read in
+    reading-given
+    (rw (eq-eqb _ _ (c .before .before .before .before .before .before .if1 .left), eq-eqb _ _ (c .before .before .before .before .before .if2 .left)))
+    (r .ensures)
+    (c .before .before .put-reading .ensures)
+    (sets-all (c .before .before .before .before .before .before .before .before .before .before .args .got .now) (r .result .taken ∷ r .result .line ∷ []) (sym (c .before .before .before .before .before .if2 .left)))
 
 pub waterbook-read-reading-spec : {M : Type 1} → statement M
 waterbook-read-reading-spec =

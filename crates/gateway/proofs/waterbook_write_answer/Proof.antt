@@ -1,10 +1,10 @@
 -- `gateway::waterbook_write_answer` meets its contract. Assumes nothing.
-use Rattle.gateway.proofs.Lines.{line-ill, line-none, line-done}
+use Rattle.gateway.proofs.Shaped.{text-ill, line-turned, line-written}
 use Rattle.gateway.proofs.Printable.{answer-prints}
 use Rattle.form.specs.Put.{sets-all}
 use mathlib.Core.Bool.{true}
 use mathlib.Core.List.{[], _∷_}
-use lib.ListN.{length, length-set}
+use lib.ListN.{length-set}
 use borrow.Author.Tests.{eq-eqb, ne-eqb, not-true, not-false}
 use mathlib.Core.Path.{_≡_, sym, _∙_}
 use native.Mathlib.Omega.{arith}
@@ -13,10 +13,10 @@ use Rattle.gateway.proofs.waterbook_write_answer.Statement.{statement}
 use Rattle.gateway.proofs.waterbook_write_answer.Tie as tie
 
 returns : tie.Need-returns
-returns c = line-ill _ _ _ _ _ (rw (ne-eqb (length (c .before .before .before .args .amounts .now)) 10 (c .if1 .taken)))
+returns c = text-ill (rw (ne-eqb _ _ (c .if1 .taken)))
 
 returns-2 : tie.Need-returns-2
-returns-2 c = line-ill _ _ _ _ _ (rw (eq-eqb (length (c .before .before .before .before .args .amounts .now)) 10 (c .before .if1 .left), ne-eqb (length (c .before .before .before .before .args .got .now)) 2 (c .if2 .taken)))
+returns-2 c = text-ill (rw (eq-eqb _ _ (c .before .if1 .left), ne-eqb _ _ (c .if2 .taken)))
 
 is-answer-requires : tie.Need-is-answer-requires
 is-answer-requires c κs = search needs
@@ -32,8 +32,8 @@ same-length c = search needs
 
 returns-3 : tie.Need-returns-3
 returns-3 c =
-    line-none _ _ _ _ _ _
-    (rw (eq-eqb (length (c .before .before .before .before .before .before .args .amounts .now)) 10 (c .before .before .before .if1 .left), eq-eqb (length (c .before .before .before .before .before .before .args .got .now)) 2 (c .before .before .if2 .left)))
+    line-turned
+    (rw (eq-eqb _ _ (c .before .before .before .if1 .left), eq-eqb _ _ (c .before .before .if2 .left)))
     (sym (c .before .is-answer .ensures) ∙ not-true _ (c .if3 .taken))
     (sets-all (c .before .before .before .before .before .before .args .got .now) (0 ∷ 0 ∷ []) (sym (c .before .before .if2 .left)))
 
@@ -59,13 +59,11 @@ returns-4 : tie.Need-returns-4
 returns-4 c =
     let good : _ ≡ true = sym (c .before .before .before .before .before .before .is-answer .ensures) ∙ not-false _ (c .before .before .before .before .before .if3 .left) in
     let from = c .before .before .before .before .amounts-from .ensures in
-    let prints = answer-prints (c .before .before .before .before .before .before .before .before .before .before .before .args .amounts .now) (c .before .before .before .before .before .before .before .before .if1 .left) (from .1) (c .before .before .before .before .before .before .before .before .before .before .before .args .number) good in
-    let p = rw (from .0) at (c .before .before .line .ensures) in
-    line-done _ _ _ _ _ (c .before .before .line .result) _ _
-    (rw (eq-eqb (length (c .before .before .before .before .before .before .before .before .before .before .before .args .amounts .now)) 10 (c .before .before .before .before .before .before .before .before .if1 .left), eq-eqb (length (c .before .before .before .before .before .before .before .before .before .before .before .args .got .now)) 2 (c .before .before .before .before .before .before .before .if2 .left)))
+    line-written
+    (rw (eq-eqb _ _ (c .before .before .before .before .before .before .before .before .if1 .left), eq-eqb _ _ (c .before .before .before .before .before .before .before .if2 .left)))
     good
-    (rw prints at (p .written))
-    (rw prints at (p .buffer))
+    (answer-prints (c .before .before .before .before .before .before .before .before .before .before .before .args .amounts .now) (c .before .before .before .before .before .before .before .before .if1 .left) (from .1) (c .before .before .before .before .before .before .before .before .before .before .before .args .number) good)
+    (rw (from .0) at (c .before .before .line .ensures))
     (sets-all (c .before .before .before .before .before .before .before .before .before .before .before .args .got .now) (c .before .before .line .result .len ∷ 0 ∷ []) (sym (c .before .before .before .before .before .before .before .if2 .left)))
 
 pub waterbook-write-answer-spec : {M : Type 1} → statement M

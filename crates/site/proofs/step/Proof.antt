@@ -14,7 +14,7 @@ use Rattle.cell.specs.declared.Reading.{Reading}
 use Rattle.cell.specs.Step.{StepGives}
 use Rattle.site.specs.Rows.{partAt, putAt}
 use Rattle.site.specs.Site.{soilFits, rowsFit, cellFits, SiteGives}
-use Rattle.site.specs.SiteLaws.{lengths-bad, cell-bad, reached, rows-reached, refused-gives}
+use Rattle.site.specs.SiteLaws.{gives, lengths-bad, cell-bad, reached, rows-reached, refused-gives}
 use borrow.Author.Needs.{needs}
 use Rattle.site.proofs.step.Statement.{statement}
 use Rattle.site.proofs.step.Tie as tie
@@ -47,21 +47,19 @@ cell-on card r h = lt-ltb _ _ h
 
 -- what the named row gave, put back in its place
 module _ (card : Card) (soil : List ℤ) (rows : List ℕ) (r : Reading) (e : (soilFits card soil && rowsFit card rows) ≡ true) (f : cellFits card r ≡ true) where
-  given : (answer : Answer) (after : List ℕ)
+  row-gave : (answer : Answer) (after : List ℕ)
       → StepGives card (take (5 * r .cell + 5 - 5 * r .cell) (drop (5 * r .cell) soil)) (take (32 * r .cell + 32 - 32 * r .cell) (drop (32 * r .cell) rows)) r answer after
       → SiteGives card soil rows r answer (putMid (32 * r .cell) (32 * r .cell + 32 - 32 * r .cell) rows after)
   unfolding partAt putAt
-  given answer after g =
+  row-gave answer after g =
       let s : 5 * r .cell + 5 - 5 * r .cell ≡ 5 = omega arith in
       let w : 32 * r .cell + 32 - 32 * r .cell ≡ 32 = omega arith in
       let h : StepGives card (partAt 5 (r .cell) soil) (partAt 32 (r .cell) rows) r answer after = rw (s, w) at g in
-      record {
-        answer-is = h .answer-is ∙ sym (reached card soil rows r e f);
-        rows-are =
-            ap (λ (t : List ℕ). take (32 * r .cell) rows ++ (after ++ t)) (post-is (32 * r .cell) (32 * r .cell + 32) rows (omega arith))
-            ∙ ap (λ (t : List ℕ). putAt 32 (r .cell) t rows) (h .row-is)
-            ∙ sym (rows-reached card soil rows r e f);
-      }
+      gives card soil rows r
+      (h .answer-is ∙ sym (reached card soil rows r e f))
+      (ap (λ (t : List ℕ). take (32 * r .cell) rows ++ (after ++ t)) (post-is (32 * r .cell) (32 * r .cell + 32) rows (omega arith))
+      ∙ ap (λ (t : List ℕ). putAt 32 (r .cell) t rows) (h .row-is)
+      ∙ sym (rows-reached card soil rows r e f))
 
 cast-cells : tie.Need-cast-cells
 cast-cells c = search needs
@@ -145,7 +143,7 @@ returns-4 : tie.Need-returns-4
 returns-4 c =
     let a = c .before .before .before .before .before .before .before .before .before .before .before .args in
     let t = c .before .before .step-row in
-    given (a .card) (a .soil .now) (a .rows .now) (a .r) (both-fit _ _ _ (c .before .before .before .before .before .before .before .if1 .left) (c .before .before .before .before .before .before .if2 .left)) (cell-on _ _ (c .before .before .before .before .before .if3 .left)) (t .result) (t .last .1 .1 .0) (t .ensures)
+    row-gave (a .card) (a .soil .now) (a .rows .now) (a .r) (both-fit _ _ _ (c .before .before .before .before .before .before .before .if1 .left) (c .before .before .before .before .before .before .if2 .left)) (cell-on _ _ (c .before .before .before .before .before .if3 .left)) (t .result) (t .last .1 .1 .0) (t .ensures)
 
 pub step-spec : {M : Type 1} → statement M
 step-spec =

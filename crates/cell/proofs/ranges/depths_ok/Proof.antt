@@ -1,5 +1,6 @@
 -- `cell::ranges::depths_ok` meets its contract. Assumes nothing.
-use Rattle.cell.proofs.Loops.{rest-is, depths-split}
+use Rattle.cell.proofs.Loops.{rest-is}
+use Rattle.cell.specs.Ranges.{depthsOk, risingFrom, noneOf}
 use lib.Seq.{length-take-le}
 use lib.ListN.{length}
 use borrow.Author.Tests.{not-true, not-false}
@@ -19,7 +20,8 @@ rising-requires : tie.Need-rising-requires
 rising-requires c κs = search needs
 
 returns : tie.Need-returns
-returns c = sym (depths-split (c .before .before .before .args .m) 0 (c .before .before .before .args .t1) ∙ rw (sym (c .before .rising .ensures) ∙ not-true _ (c .if1 .taken)))
+unfolding depthsOk
+returns c = let e : length (c .before .before .before .args .t1) ≡ 30 = search needs in sym (rw (e, sym (c .before .rising .ensures) ∙ not-true _ (c .if1 .taken)))
 
 mul-none : tie.Need-mul-none
 mul-none c = search needs
@@ -37,7 +39,12 @@ none-requires : tie.Need-none-requires
 none-requires c κs = search needs
 
 returns-2 : tie.Need-returns-2
-returns-2 c = let e : length (c .before .before .before .before .before .before .args .t1) ≡ 30 = search needs in let r = rw e at (rest-is (c .before .before .before .before .before .before .args .m) (c .before .before .before .before .before .before .args .t1)) in rw r at (c .none .ensures) ∙ sym (depths-split (c .before .before .before .before .before .before .args .m) 0 (c .before .before .before .before .before .before .args .t1) ∙ rw (sym (c .before .before .before .before .rising .ensures) ∙ not-false _ (c .before .before .before .if1 .left)))
+unfolding depthsOk
+returns-2 c =
+    let s = c .before .before .before .before .before .before .args in
+    let e : length (s .t1) ≡ 30 = search needs in
+    let r = rw e at (rest-is (s .m) (s .t1)) in
+    rw r at (c .none .ensures) ∙ sym (rw (e, sym (c .before .before .before .before .rising .ensures) ∙ not-false _ (c .before .before .before .if1 .left)))
 
 pub depths-ok-spec : {M : Type 1} → statement M
 depths-ok-spec =

@@ -1,6 +1,6 @@
 -- `cell::ranges::none` meets its contract. Assumes nothing.
 use Rattle.cell.proofs.Loops.{none-turn, none-end}
-use Rattle.cell.specs.Parts.{noneOf}
+use Rattle.cell.specs.Ranges.{noneOf}
 use lib.ListN.{length, drop}
 use Prim.Native.Nat.{_-_, _≤_}
 use mathlib.Core.Bool.{_&&_}

@@ -1,6 +1,6 @@
 -- `cell::ranges::rising` meets its contract. Assumes nothing.
 use Rattle.cell.proofs.Loops.{rising-turn, rising-end}
-use Rattle.cell.specs.Parts.{risingFrom}
+use Rattle.cell.specs.Ranges.{risingFrom}
 use lib.ListN.{length, drop}
 use Prim.Native.Nat.{_-_, _≤_}
 use mathlib.Core.Bool.{_&&_}

@@ -35,7 +35,9 @@ add-result-3 : tie.Need-add-result-3
 add-result-3 c = search needs
 
 returns : tie.Need-returns
-returns c = omega (arith, parts-length (now (c .before .before .before .before .before .before .args .h)) (c .before .before .before .before .before .before .args .m) (now (c .before .before .before .before .before .before .args .ds)) (c .before .before .before .before .before .before .args .n) (now (c .before .before .before .before .before .before .args .soil)), c .before .before .before .before .form-len .ensures .0, c .before .before .many-len .ensures .0, c .many-len2 .ensures .0)
+returns c =
+    let a = c .before .before .before .before .before .before .args in
+    omega (arith, parts-length (now (a .h)) (a .m) (now (a .ds)) (a .n) (now (a .soil)), c .before .before .before .before .form-len .ensures .0, c .before .before .many-len .ensures .0, c .many-len2 .ensures .0)
 
 pub card-len-spec : {M : Type 1} → statement M
 card-len-spec =

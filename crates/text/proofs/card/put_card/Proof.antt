@@ -13,31 +13,45 @@ slice-aggregate-put-form : tie.Need-slice-aggregate-put-form
 slice-aggregate-put-form c = search needs
 
 put-form-requires : tie.Need-put-form-requires
-put-form-requires c κs = (omega arith, omega (arith, parts-length (now (c .before .before .before .args .h)) (c .before .before .before .args .m) (now (c .before .before .before .args .ds)) (c .before .before .before .args .n) (now (c .before .before .before .args .soil)), c .before .before .before .pre .5))
+put-form-requires c κs =
+    let a = c .before .before .before .args in
+    (omega arith, omega (arith, parts-length (now (a .h)) (a .m) (now (a .ds)) (a .n) (now (a .soil)), c .before .before .before .pre .5))
 
 slice-aggregate-put-many : tie.Need-slice-aggregate-put-many
 slice-aggregate-put-many c = search needs
 
 put-many-requires : tie.Need-put-many-requires
-put-many-requires c κs = (refl, omega (arith, c .before .before .before .before .before .before .before .before .pre .1, c .before .before .before .before .before .before .before .before .pre .2), omega (arith, parts-length (now (c .before .before .before .before .before .before .before .before .args .h)) (c .before .before .before .before .before .before .before .before .args .m) (now (c .before .before .before .before .before .before .before .before .args .ds)) (c .before .before .before .before .before .before .before .before .args .n) (now (c .before .before .before .before .before .before .before .before .args .soil)), c .before .before .before .before .before .before .before .before .pre .5, c .before .before .before .before .put-form .ensures .0, c .before .before .before .before .put-form .kept .1 .1 .1 .0))
+put-many-requires c κs =
+    let a = c .before .before .before .before .before .before .before .before .args in
+    let p = c .before .before .before .before .before .before .before .before .pre in
+    (refl, omega (arith, p .1, p .2), omega (arith, parts-length (now (a .h)) (a .m) (now (a .ds)) (a .n) (now (a .soil)), p .5, c .before .before .before .before .put-form .ensures .0, c .before .before .before .before .put-form .kept .1 .1 .1 .0))
 
 slice-write-buf : tie.Need-slice-write-buf
-slice-write-buf c = omega (arith, parts-length (now (c .before .before .before .before .before .before .before .before .before .before .before .args .h)) (c .before .before .before .before .before .before .before .before .before .before .before .args .m) (now (c .before .before .before .before .before .before .before .before .before .before .before .args .ds)) (c .before .before .before .before .before .before .before .before .before .before .before .args .n) (now (c .before .before .before .before .before .before .before .before .before .before .before .args .soil)), c .before .before .before .before .before .before .before .before .before .before .before .pre .5, c .before .before .before .before .before .before .before .put-form .ensures .0, c .before .before .before .before .before .before .before .put-form .kept .1 .1 .1 .0, c .before .before .put-many .ensures .0, c .before .before .put-many .kept .1 .1 .1 .1 .1 .0)
+slice-write-buf c =
+    let a = c .before .before .before .before .before .before .before .before .before .before .before .args in
+    omega (arith, parts-length (now (a .h)) (a .m) (now (a .ds)) (a .n) (now (a .soil)), c .before .before .before .before .before .before .before .before .before .before .before .pre .5, c .before .before .before .before .before .before .before .put-form .ensures .0, c .before .before .before .before .before .before .before .put-form .kept .1 .1 .1 .0, c .before .before .put-many .ensures .0, c .before .before .put-many .kept .1 .1 .1 .1 .1 .0)
 
 slice-aggregate-put-many-2 : tie.Need-slice-aggregate-put-many-2
 slice-aggregate-put-many-2 c = search needs
 
 add-put-many : tie.Need-add-put-many
-add-put-many c = omega (arith, parts-length (now (c .before .before .before .before .before .before .before .before .before .before .before .before .before .args .h)) (c .before .before .before .before .before .before .before .before .before .before .before .before .before .args .m) (now (c .before .before .before .before .before .before .before .before .before .before .before .before .before .args .ds)) (c .before .before .before .before .before .before .before .before .before .before .before .before .before .args .n) (now (c .before .before .before .before .before .before .before .before .before .before .before .before .before .args .soil)), c .before .before .before .before .before .before .before .before .before .before .before .before .before .pre .5, c .before .before .before .before .before .before .before .before .before .put-form .ensures .0, c .before .before .before .before .put-many .ensures .0)
+add-put-many c =
+    let a = c .before .before .before .before .before .before .before .before .before .before .before .before .before .args in
+    omega (arith, parts-length (now (a .h)) (a .m) (now (a .ds)) (a .n) (now (a .soil)), c .before .before .before .before .before .before .before .before .before .before .before .before .before .pre .5, c .before .before .before .before .before .before .before .before .before .put-form .ensures .0, c .before .before .before .before .put-many .ensures .0)
 
 put-many-requires-2 : tie.Need-put-many-requires-2
-put-many-requires-2 c κs = (refl, omega (arith, c .before .before .before .before .before .before .before .before .before .before .before .before .before .pre .4), simp length-set (omega (arith, parts-length (now (c .before .before .before .before .before .before .before .before .before .before .before .before .before .args .h)) (c .before .before .before .before .before .before .before .before .before .before .before .before .before .args .m) (now (c .before .before .before .before .before .before .before .before .before .before .before .before .before .args .ds)) (c .before .before .before .before .before .before .before .before .before .before .before .before .before .args .n) (now (c .before .before .before .before .before .before .before .before .before .before .before .before .before .args .soil)), c .before .before .before .before .before .before .before .before .before .before .before .before .before .pre .5, c .before .before .before .before .before .before .before .before .before .put-form .ensures .0, c .before .before .before .before .before .before .before .before .before .put-form .kept .1 .1 .1 .0, c .before .before .before .before .put-many .ensures .0, c .before .before .before .before .put-many .kept .1 .1 .1 .1 .1 .0)))
+put-many-requires-2 c κs =
+    let a = c .before .before .before .before .before .before .before .before .before .before .before .before .before .args in
+    let p = c .before .before .before .before .before .before .before .before .before .before .before .before .before .pre in
+    (refl, omega (arith, p .4), simp length-set (omega (arith, parts-length (now (a .h)) (a .m) (now (a .ds)) (a .n) (now (a .soil)), p .5, c .before .before .before .before .before .before .before .before .before .put-form .ensures .0, c .before .before .before .before .before .before .before .before .before .put-form .kept .1 .1 .1 .0, c .before .before .before .before .put-many .ensures .0, c .before .before .before .before .put-many .kept .1 .1 .1 .1 .1 .0)))
 
 same-length : tie.Need-same-length
 same-length c = c .before .before .put-many2 .kept .1 .1 .1 .1 .1 .0 ∙ simp length-set (c .before .before .before .before .before .before .before .put-many .kept .1 .1 .1 .1 .1 .0 ∙ c .before .before .before .before .before .before .before .before .before .before .before .before .put-form .kept .1 .1 .1 .0)
 
 returns : tie.Need-returns
-returns c = parts-put (now (c .before .before .before .before .before .before .before .before .before .before .before .before .before .before .before .before .args .h)) (c .before .before .before .before .before .before .before .before .before .before .before .before .before .before .before .before .args .m) (now (c .before .before .before .before .before .before .before .before .before .before .before .before .before .before .before .before .args .ds)) (c .before .before .before .before .before .before .before .before .before .before .before .before .before .before .before .before .args .n) (now (c .before .before .before .before .before .before .before .before .before .before .before .before .before .before .before .before .args .soil)) (now (c .before .before .before .before .before .before .before .before .before .before .before .before .before .before .before .before .args .buf)) _ _ _ _ _ (c .before .before .before .before .before .before .before .before .before .before .before .before .put-form .ensures .1) (c .before .before .before .before .before .before .before .before .before .before .before .before .put-form .ensures .0) (c .before .before .before .before .before .before .before .put-many .ensures .1) (c .before .before .before .before .before .before .before .put-many .ensures .0) (c .before .before .put-many2 .ensures .1)
+returns c =
+    let a = c .before .before .before .before .before .before .before .before .before .before .before .before .before .before .before .before .args in
+    parts-put (now (a .h)) (a .m) (now (a .ds)) (a .n) (now (a .soil)) (now (a .buf)) _ _ _ _ _ (c .before .before .before .before .before .before .before .before .before .before .before .before .put-form .ensures .1) (c .before .before .before .before .before .before .before .before .before .before .before .before .put-form .ensures .0) (c .before .before .before .before .before .before .before .put-many .ensures .1) (c .before .before .before .before .before .before .before .put-many .ensures .0) (c .before .before .put-many2 .ensures .1)
 
 pub put-card-spec : {M : Type 1} → statement M
 put-card-spec =

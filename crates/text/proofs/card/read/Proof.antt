@@ -37,7 +37,8 @@ refuse-requires c κs = search needs
 
 returns : tie.Need-returns
 returns c =
-    end-short (now (c .before .before .before .before .before .before .before .before .before .before .before .before .before .before .args .s)) (now (c .before .before .before .before .before .before .before .before .before .before .before .before .before .before .args .soil)) _ (c .before .before .before .before .before .before .before .before .before .before .before .before .card-counts .ensures) _ _ (c .before .before .before .before .before .before .before .before .card-depths .ensures .0) (c .before .before .before .before .before .before .before .before .before .before .before .if1 .taken) _ (c .before .before .before .pass-many .ensures) (c .before .before .before .before .before .before .if2 .taken) (c .before .before .if3 .taken)
+    let a = c .before .before .before .before .before .before .before .before .before .before .before .before .before .before .args in
+    end-short (now (a .s)) (now (a .soil)) _ (c .before .before .before .before .before .before .before .before .before .before .before .before .card-counts .ensures) _ _ (c .before .before .before .before .before .before .before .before .card-depths .ensures .0) (c .before .before .before .before .before .before .before .before .before .before .before .if1 .taken) _ (c .before .before .before .pass-many .ensures) (c .before .before .before .before .before .before .if2 .taken) (c .before .before .if3 .taken)
     (c .before .if4 .taken) (c .refuse .ensures)
 
 slice-aggregate-read-many : tie.Need-slice-aggregate-read-many
@@ -57,7 +58,8 @@ same-length c = search needs
 
 returns-2 : tie.Need-returns-2
 returns-2 c =
-    end-good (now (c .before .before .before .before .before .before .before .before .before .before .before .before .before .before .before .before .before .before .before .args .s)) (now (c .before .before .before .before .before .before .before .before .before .before .before .before .before .before .before .before .before .before .before .args .soil)) _ (c .before .before .before .before .before .before .before .before .before .before .before .before .before .before .before .before .before .card-counts .ensures) (refusedCard 0 0) _ (c .before .before .before .before .before .before .before .before .before .before .before .before .before .card-depths .ensures .0) (c .before .before .before .before .before .before .before .before .before .before .before .before .before .before .before .before .if1 .taken) _ (c .before .before .before .before .before .before .before .before .pass-many .ensures) (c .before .before .before .before .before .before .before .before .before .before .before .if2 .taken)
+    let a = c .before .before .before .before .before .before .before .before .before .before .before .before .before .before .before .before .before .before .before .args in
+    end-good (now (a .s)) (now (a .soil)) _ (c .before .before .before .before .before .before .before .before .before .before .before .before .before .before .before .before .before .card-counts .ensures) (refusedCard 0 0) _ (c .before .before .before .before .before .before .before .before .before .before .before .before .before .card-depths .ensures .0) (c .before .before .before .before .before .before .before .before .before .before .before .before .before .before .before .before .if1 .taken) _ (c .before .before .before .before .before .before .before .before .pass-many .ensures) (c .before .before .before .before .before .before .before .before .before .before .before .if2 .taken)
     _ _ _ (c .before .before .before .before .before .before .before .if3 .taken) (c .before .before .before .before .before .before .if4 .left) (c .before .before .before .before .before .before .before .before .before .before .before .before .before .card-depths .ensures .1) (c .to-depths .ensures) (c .before .before .before .read-many .ensures .1)
 
 add-refuse : tie.Need-add-refuse
@@ -70,19 +72,24 @@ refuse-requires-2 c κs = search needs
 
 returns-3 : tie.Need-returns-3
 returns-3 c =
-    end-soil (now (c .before .before .before .before .before .before .before .before .before .before .before .before .before .before .args .s)) (now (c .before .before .before .before .before .before .before .before .before .before .before .before .before .before .args .soil)) _ (c .before .before .before .before .before .before .before .before .before .before .before .before .card-counts .ensures) _ _ (c .before .before .before .before .before .before .before .before .card-depths .ensures .0) (c .before .before .before .before .before .before .before .before .before .before .before .if1 .taken) _ (c .before .before .before .pass-many .ensures) (c .before .before .before .before .before .before .if2 .taken) (c .before .before .if3 .left) (c .refuse2 .ensures)
+    let a = c .before .before .before .before .before .before .before .before .before .before .before .before .before .before .args in
+    end-soil (now (a .s)) (now (a .soil)) _ (c .before .before .before .before .before .before .before .before .before .before .before .before .card-counts .ensures) _ _ (c .before .before .before .before .before .before .before .before .card-depths .ensures .0) (c .before .before .before .before .before .before .before .before .before .before .before .if1 .taken) _ (c .before .before .before .pass-many .ensures) (c .before .before .before .before .before .before .if2 .taken) (c .before .before .if3 .left) (c .refuse2 .ensures)
 
 refuse-requires-3 : tie.Need-refuse-requires-3
 refuse-requires-3 c κs = search needs
 
 returns-4 : tie.Need-returns-4
-returns-4 c = end-depths (now (c .before .before .before .before .before .before .before .before .before .args .s)) (now (c .before .before .before .before .before .before .before .before .before .args .soil)) _ (c .before .before .before .before .before .before .before .card-counts .ensures) _ _ (c .before .before .before .card-depths .ensures .0) (c .before .before .before .before .before .before .if1 .taken) (c .before .if2 .left) (c .refuse3 .ensures)
+returns-4 c =
+    let a = c .before .before .before .before .before .before .before .before .before .args in
+    end-depths (now (a .s)) (now (a .soil)) _ (c .before .before .before .before .before .before .before .card-counts .ensures) _ _ (c .before .before .before .card-depths .ensures .0) (c .before .before .before .before .before .before .if1 .taken) (c .before .if2 .left) (c .refuse3 .ensures)
 
 refuse-requires-4 : tie.Need-refuse-requires-4
 refuse-requires-4 c κs = search needs
 
 returns-5 : tie.Need-returns-5
-returns-5 c = end-head (now (c .before .before .before .before .args .s)) (now (c .before .before .before .before .args .soil)) _ (c .before .before .card-counts .ensures) _ (c .before .if1 .left) (c .refuse4 .ensures)
+returns-5 c =
+    let a = c .before .before .before .before .args in
+    end-head (now (a .s)) (now (a .soil)) _ (c .before .before .card-counts .ensures) _ (c .before .if1 .left) (c .refuse4 .ensures)
 
 pub read-spec : {M : Type 1} → statement M
 read-spec =

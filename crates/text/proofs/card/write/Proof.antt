@@ -7,13 +7,17 @@ use lib.ListN.{length}
 use borrow.Author.Needs.{needs}
 use Rattle.text.proofs.card.write.Statement.{statement}
 use Rattle.text.proofs.card.write.Tie as tie
-use Rattle.text.specs.CardTexts.{given-range, wrote-none, wrote-long, wrote-odd, wrote-short, wrote-all}
+use mathlib.Core.Bool.{true}
+use Rattle.form.specs.Many.{manyFit}
+use Rattle.text.specs.Cards.{hasText}
+use Rattle.text.specs.Lines.{soilForm}
+use Rattle.text.specs.CardTexts.{text-counts, wrote-none, wrote-long, wrote-odd, wrote-short, wrote-all}
 
 long : (c : tie.After-d2) → length (c .before .before .before .before .before .before .before .before .before .before .before .before .args .card .depths) ≡ 30
 long c = search needs
 
-card-given-requires : tie.Need-card-given-requires
-card-given-requires c κs = search needs
+has-text-requires : tie.Need-has-text-requires
+has-text-requires c κs = search needs
 
 cast-n : tie.Need-cast-n
 cast-n c = search needs
@@ -21,11 +25,11 @@ cast-n c = search needs
 mul-if2 : tie.Need-mul-if2
 mul-if2 c = search needs
 
-slice-aggregate-rows-fit : tie.Need-slice-aggregate-rows-fit
-slice-aggregate-rows-fit c = search needs
+slice-aggregate-many-fit : tie.Need-slice-aggregate-many-fit
+slice-aggregate-many-fit c = search needs
 
-rows-fit-requires : tie.Need-rows-fit-requires
-rows-fit-requires c κs = search needs
+many-fit-requires : tie.Need-many-fit-requires
+many-fit-requires c κs = search needs
 
 cast-m : tie.Need-cast-m
 cast-m c = search needs
@@ -46,10 +50,18 @@ slice-aggregate-card-len-2 : tie.Need-slice-aggregate-card-len-2
 slice-aggregate-card-len-2 c = search needs
 
 card-len-requires : tie.Need-card-len-requires
-card-len-requires c κs = (search needs, given-range (c .before .before .before .before .before .before .before .before .before .before .before .before .before .before .before .args .card) (sym (c .before .before .before .before .before .before .before .before .before .before .before .before .before .card-given .ensures) ∙ c .before .before .before .before .before .before .before .before .before .before .before .before .if1 .taken) .1, search needs, given-range (c .before .before .before .before .before .before .before .before .before .before .before .before .before .before .before .args .card) (sym (c .before .before .before .before .before .before .before .before .before .before .before .before .before .card-given .ensures) ∙ c .before .before .before .before .before .before .before .before .before .before .before .before .if1 .taken) .0, c .before .before .before .before .before .before .before .before .before .before .if2 .taken)
+card-len-requires c κs =
+    let n = text-counts (c .before .before .before .before .before .before .before .before .before .before .before .before .before .before .before .args .card) (sym (c .before .before .before .before .before .before .before .before .before .before .before .before .before .has-text .ensures) ∙ c .before .before .before .before .before .before .before .before .before .before .before .before .if1 .taken) in
+    (search needs, n .2, search needs, n .1, c .before .before .before .before .before .before .before .before .before .before .if2 .taken)
 
 returns : tie.Need-returns
-returns c = let L : length (c .before .before .before .before .before .before .before .before .before .before .before .before .before .before .before .before .before .args .card .depths) ≡ 30 = search needs in wrote-short (c .before .before .before .before .before .before .before .before .before .before .before .before .before .before .before .before .before .args .card) (now (c .before .before .before .before .before .before .before .before .before .before .before .before .before .before .before .before .before .args .soil)) (now (c .before .before .before .before .before .before .before .before .before .before .before .before .before .before .before .before .before .args .buf)) (sym (c .before .before .before .before .before .before .before .before .before .before .before .before .before .before .before .card-given .ensures) ∙ c .before .before .before .before .before .before .before .before .before .before .before .before .before .before .if1 .taken) (c .before .before .before .before .before .before .before .before .before .before .before .before .if2 .taken) (sym (c .before .before .before .before .before .before .before .before .before .before .rows-fit .ensures) ∙ c .before .before .before .before .before .before .before .before .before .if3 .taken) (omega (arith, given-range (c .before .before .before .before .before .before .before .before .before .before .before .before .before .before .before .before .before .args .card) (sym (c .before .before .before .before .before .before .before .before .before .before .before .before .before .before .before .card-given .ensures) ∙ c .before .before .before .before .before .before .before .before .before .before .before .before .before .before .if1 .taken) .1)) _ (rw (c .before .before .before .before .before .before .count-values .ensures, c .before .before .before .before .depth-values .ensures) at (c .before .card-len .ensures)) (c .if4 .taken)
+returns c =
+    let a = c .before .before .before .before .before .before .before .before .before .before .before .before .before .before .before .before .before .args in
+    let L : length (a .card .depths) ≡ 30 = search needs in
+    let t : hasText (a .card) ≡ true = sym (c .before .before .before .before .before .before .before .before .before .before .before .before .before .before .before .has-text .ensures) ∙ c .before .before .before .before .before .before .before .before .before .before .before .before .before .before .if1 .taken in
+    let f : manyFit (a .card .cells) soilForm (now (a .soil)) ≡ true = rw (← c .before .before .before .before .before .before .before .before .before .before .many-fit .ensures) (c .before .before .before .before .before .before .before .before .before .if3 .taken) in
+    let n = rw (c .before .before .before .before .before .before .count-values .ensures, c .before .before .before .before .depth-values .ensures) at (c .before .card-len .ensures) in
+    wrote-short (a .card) (now (a .soil)) (now (a .buf)) t (c .before .before .before .before .before .before .before .before .before .before .before .before .if2 .taken) f (omega (arith, text-counts (a .card) t .2)) _ n (c .if4 .taken)
 
 slice-aggregate-put-card : tie.Need-slice-aggregate-put-card
 slice-aggregate-put-card c = search needs
@@ -58,32 +70,47 @@ slice-aggregate-put-card-2 : tie.Need-slice-aggregate-put-card-2
 slice-aggregate-put-card-2 c = search needs
 
 put-card-requires : tie.Need-put-card-requires
-put-card-requires c κs = (search needs, given-range (c .before .before .before .before .before .before .before .before .before .before .before .before .before .before .before .before .before .before .before .before .args .card) (sym (c .before .before .before .before .before .before .before .before .before .before .before .before .before .before .before .before .before .before .card-given .ensures) ∙ c .before .before .before .before .before .before .before .before .before .before .before .before .before .before .before .before .before .if1 .taken) .1, search needs, given-range (c .before .before .before .before .before .before .before .before .before .before .before .before .before .before .before .before .before .before .before .before .args .card) (sym (c .before .before .before .before .before .before .before .before .before .before .before .before .before .before .before .before .before .before .card-given .ensures) ∙ c .before .before .before .before .before .before .before .before .before .before .before .before .before .before .before .before .before .if1 .taken) .0, c .before .before .before .before .before .before .before .before .before .before .before .before .before .before .before .if2 .taken, omega (arith, c .before .before .before .before .card-len .ensures, c .before .before .before .if4 .left))
+put-card-requires c κs =
+    let n = text-counts (c .before .before .before .before .before .before .before .before .before .before .before .before .before .before .before .before .before .before .before .before .args .card) (sym (c .before .before .before .before .before .before .before .before .before .before .before .before .before .before .before .before .before .before .has-text .ensures) ∙ c .before .before .before .before .before .before .before .before .before .before .before .before .before .before .before .before .before .if1 .taken) in
+    (search needs, n .2, search needs, n .1, c .before .before .before .before .before .before .before .before .before .before .before .before .before .before .before .if2 .taken, omega (arith, c .before .before .before .before .card-len .ensures, c .before .before .before .if4 .left))
 
 same-length : tie.Need-same-length
 same-length c = search needs
 
 returns-2 : tie.Need-returns-2
-returns-2 c = let L = long (c .before .before .before .before .before .before .before .before .before .before .before) in wrote-all (c .before .before .before .before .before .before .before .before .before .before .before .before .before .before .before .before .before .before .before .before .before .before .before .args .card) (now (c .before .before .before .before .before .before .before .before .before .before .before .before .before .before .before .before .before .before .before .before .before .before .before .args .soil)) (now (c .before .before .before .before .before .before .before .before .before .before .before .before .before .before .before .before .before .before .before .before .before .before .before .args .buf)) (sym (c .before .before .before .before .before .before .before .before .before .before .before .before .before .before .before .before .before .before .before .before .before .card-given .ensures) ∙ c .before .before .before .before .before .before .before .before .before .before .before .before .before .before .before .before .before .before .before .before .if1 .taken) (c .before .before .before .before .before .before .before .before .before .before .before .before .before .before .before .before .before .before .if2 .taken) (sym (c .before .before .before .before .before .before .before .before .before .before .before .before .before .before .before .before .rows-fit .ensures) ∙ c .before .before .before .before .before .before .before .before .before .before .before .before .before .before .before .if3 .taken) (omega (arith, given-range (c .before .before .before .before .before .before .before .before .before .before .before .before .before .before .before .before .before .before .before .before .before .before .before .args .card) (sym (c .before .before .before .before .before .before .before .before .before .before .before .before .before .before .before .before .before .before .before .before .before .card-given .ensures) ∙ c .before .before .before .before .before .before .before .before .before .before .before .before .before .before .before .before .before .before .before .before .if1 .taken) .1)) _ (rw (c .before .before .before .before .before .before .before .before .before .before .before .before .count-values .ensures, c .before .before .before .before .before .before .before .before .before .before .depth-values .ensures) at (c .before .before .before .before .before .before .before .card-len .ensures)) _ (c .before .before .before .before .before .before .if4 .left) (rw (c .before .before .before .before .before .before .before .before .before .before .before .before .count-values .ensures, c .before .before .before .before .before .before .before .before .before .before .depth-values .ensures) at (c .before .before .put-card .ensures))
+returns-2 c =
+    let a = c .before .before .before .before .before .before .before .before .before .before .before .before .before .before .before .before .before .before .before .before .before .before .before .args in
+    let L = long (c .before .before .before .before .before .before .before .before .before .before .before) in
+    let t : hasText (a .card) ≡ true = sym (c .before .before .before .before .before .before .before .before .before .before .before .before .before .before .before .before .before .before .before .before .before .has-text .ensures) ∙ c .before .before .before .before .before .before .before .before .before .before .before .before .before .before .before .before .before .before .before .before .if1 .taken in
+    let f : manyFit (a .card .cells) soilForm (now (a .soil)) ≡ true = rw (← c .before .before .before .before .before .before .before .before .before .before .before .before .before .before .before .before .many-fit .ensures) (c .before .before .before .before .before .before .before .before .before .before .before .before .before .before .before .if3 .taken) in
+    let h = c .before .before .before .before .before .before .before .before .before .before .before .before .count-values .ensures in
+    let d = c .before .before .before .before .before .before .before .before .before .before .depth-values .ensures in
+    wrote-all (a .card) (now (a .soil)) (now (a .buf)) t (c .before .before .before .before .before .before .before .before .before .before .before .before .before .before .before .before .before .before .if2 .taken) f (omega (arith, text-counts (a .card) t .2)) _ (rw (h, d) at (c .before .before .before .before .before .before .before .card-len .ensures)) _ (c .before .before .before .before .before .before .if4 .left) (rw (h, d) at (c .before .before .put-card .ensures))
 
 returns-3 : tie.Need-returns-3
-returns-3 c = wrote-odd (c .before .before .before .before .before .before .before .before .args .card) (now (c .before .before .before .before .before .before .before .before .args .soil)) (now (c .before .before .before .before .before .before .before .before .args .buf)) (sym (c .before .before .before .before .before .before .card-given .ensures) ∙ c .before .before .before .before .before .if1 .taken) (c .before .before .before .if2 .taken) (sym (c .before .rows-fit .ensures) ∙ c .if3 .left)
+returns-3 c =
+    let a = c .before .before .before .before .before .before .before .before .args in
+    wrote-odd (a .card) (now (a .soil)) (now (a .buf)) (sym (c .before .before .before .before .before .before .has-text .ensures) ∙ c .before .before .before .before .before .if1 .taken) (c .before .before .before .if2 .taken) (rw (← c .before .many-fit .ensures) (c .if3 .left))
 
 returns-4 : tie.Need-returns-4
-returns-4 c = wrote-long (c .before .before .before .before .before .args .card) (now (c .before .before .before .before .before .args .soil)) (now (c .before .before .before .before .before .args .buf)) (sym (c .before .before .before .card-given .ensures) ∙ c .before .before .if1 .taken) (c .if2 .left)
+returns-4 c =
+    let a = c .before .before .before .before .before .args in
+    wrote-long (a .card) (now (a .soil)) (now (a .buf)) (sym (c .before .before .before .has-text .ensures) ∙ c .before .before .if1 .taken) (c .if2 .left)
 
 returns-5 : tie.Need-returns-5
-returns-5 c = wrote-none (c .before .before .before .args .card) (now (c .before .before .before .args .soil)) (now (c .before .before .before .args .buf)) (sym (c .before .card-given .ensures) ∙ c .if1 .left)
+returns-5 c =
+    let a = c .before .before .before .args in
+    wrote-none (a .card) (now (a .soil)) (now (a .buf)) (sym (c .before .has-text .ensures) ∙ c .if1 .left)
 
 pub write-spec : {M : Type 1} → statement M
 write-spec =
     tie.close
     (tie.spec
-    card-given-requires
+    has-text-requires
     cast-n
     mul-if2
-    slice-aggregate-rows-fit
-    rows-fit-requires
+    slice-aggregate-many-fit
+    many-fit-requires
     cast-m
     count-values-requires
     slice-aggregate-depth-values

@@ -7,10 +7,10 @@ use lib.ListN.{length, drop}
 use Rattle.text.proofs.Zeros.{zero-end, zero-yes, zero-no}
 use Rattle.text.proofs.card.zero_from.Statement.{statement}
 use Rattle.text.proofs.card.zero_from.Tie as tie
-use Rattle.text.specs.Cards.{allZero}
+use Rattle.cell.specs.Ranges.{noneOf}
 
 abbrev Inv-loop : tie.InvT-loop
-Inv-loop d from k₀ k = allZero (drop from d) ≡ allZero (drop k d)
+Inv-loop d from k₀ k = noneOf (drop from d) ≡ noneOf (drop k d)
 
 abbrev μ-loop : tie.MeasureT-loop
 μ-loop d from k₀ k = length d - k

@@ -13,7 +13,7 @@ amounts-printable-requires c κs = search needs
 returns : tie.Need-returns
 returns c =
     let t : amountsPrintable _ ≡ false = sym (c .before .amounts-printable .ensures) ∙ not-true _ (c .if1 .taken) in
-    record { written = rw t; buffer = rw t }
+    record { written-is = rw t; buffer-is = rw t }
 
 answer-values-requires : tie.Need-answer-values-requires
 answer-values-requires c κs = sym (c .before .amounts-printable .ensures) ∙ not-false _ (c .if1 .left)
@@ -35,7 +35,7 @@ unfolding lineText
 returns-2 c =
     let t : amountsPrintable _ ≡ true = sym (c .before .before .before .before .before .before .before .before .amounts-printable .ensures) ∙ not-false _ (c .before .before .before .before .before .before .before .if1 .left) in
     let p = rw (c .before .before .before .before .before .before .answer-values .ensures) at (c .before .before .put-line .ensures) in
-    record { written = rw t (p .0); buffer = rw t (p .1) }
+    record { written-is = rw t (p .written-is); buffer-is = rw t (p .buffer-is) }
 
 pub line-spec : {M : Type 1} → statement M
 line-spec =

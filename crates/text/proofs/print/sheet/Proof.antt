@@ -13,7 +13,7 @@ sheet-printable-requires c κs = search needs
 returns : tie.Need-returns
 returns c =
     let t : sheetPrintable _ ≡ false = sym (c .before .sheet-printable .ensures) ∙ not-true _ (c .if1 .taken) in
-    record { written = rw t; buffer = rw t }
+    record { written-is = rw t; buffer-is = rw t }
 
 sheet-values-requires : tie.Need-sheet-values-requires
 sheet-values-requires c κs = sym (c .before .sheet-printable .ensures) ∙ not-false _ (c .if1 .left)
@@ -35,7 +35,7 @@ unfolding sheetText
 returns-2 c =
     let t : sheetPrintable _ ≡ true = sym (c .before .before .before .before .before .before .before .before .sheet-printable .ensures) ∙ not-false _ (c .before .before .before .before .before .before .before .if1 .left) in
     let p = rw (c .before .before .before .before .before .before .sheet-values .ensures) at (c .before .before .put-line .ensures) in
-    record { written = rw t (p .0); buffer = rw t (p .1) }
+    record { written-is = rw t (p .written-is); buffer-is = rw t (p .buffer-is) }
 
 pub sheet-spec : {M : Type 1} → statement M
 sheet-spec =

@@ -1,11 +1,11 @@
--- `form::value::word` meets its contract. Assumes nothing.
+-- `form::words::word` meets its contract. Assumes nothing.
 use native.Mathlib.Omega.{arith}
 use mathlib.Core.Path.{sym, _∙_}
 use mir.Facts.{toZ-ofZ}
 use Rattle.form.specs.Words.{word-neg, word-big, word-small}
 use borrow.Author.Needs.{needs}
-use Rattle.form.proofs.value.word.Statement.{statement}
-use Rattle.form.proofs.value.word.Tie as tie
+use Rattle.form.proofs.words.word.Statement.{statement}
+use Rattle.form.proofs.words.word.Tie as tie
 
 size-requires : tie.Need-size-requires
 size-requires c κs = search needs

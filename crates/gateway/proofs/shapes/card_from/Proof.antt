@@ -1,17 +1,17 @@
--- `gateway::shapes::card_of` meets its contract. Assumes nothing.
+-- `gateway::shapes::card_from` meets its contract. Assumes nothing.
 use Rattle.form.specs.Put.{sets-all}
 use lib.ListN.{drop, length-drop, length-replicate}
 use Prim.Native.Nat.{ℕ}
 use mathlib.Core.Path.{_∙_}
 use native.Mathlib.Nat.{add-zero}
 use Rattle.gateway.proofs.Copies.{Copied, begin, turn, done}
-use Rattle.gateway.specs.Shapes.{cardOf}
+use Rattle.gateway.specs.Shapes.{cardFrom}
 use lib.ListN.{replicate}
 use Prim.Native.Nat.{_-_}
 use native.Mathlib.Omega.{arith}
 use borrow.Author.Needs.{needs}
-use Rattle.gateway.proofs.shapes.card_of.Statement.{statement}
-use Rattle.gateway.proofs.shapes.card_of.Tie as tie
+use Rattle.gateway.proofs.shapes.card_from.Statement.{statement}
+use Rattle.gateway.proofs.shapes.card_from.Tie as tie
 
 abbrev Inv-loop : tie.InvT-loop
 Inv-loop l depths₀ k₀ depths k = Copied (replicate 30 0) l 0 2 depths k
@@ -53,11 +53,11 @@ shared-slice-read-t15 : tie.Need-shared-slice-read-t15 Inv-loop μ-loop
 shared-slice-read-t15 c = omega (arith, c .before .before .before .before .pre)
 
 returns : tie.Need-returns Inv-loop μ-loop
-unfolding cardOf
+unfolding cardFrom
 returns c = rw (done (replicate 30 0) (c .before .before .before .before .args .l .now) 0 2 (c .before .before .before .loop .depths) (c .before .before .before .loop .k) (c .before .before .before .loop .inv) (omega (arith, c .before .before .loop-test .left, c .before .before .before .before .pre)), sets-all (replicate 30 0) (drop 2 (c .before .before .before .before .args .l .now)) (length-drop 2 (c .before .before .before .before .args .l .now) ∙ omega (arith, c .before .before .before .before .pre, length-replicate {A = ℕ} 30 0)))
 
-pub card-of-spec : {M : Type 1} → statement M
-card-of-spec =
+pub card-from-spec : {M : Type 1} → statement M
+card-from-spec =
     tie.close
     (tie.spec
     Inv-loop

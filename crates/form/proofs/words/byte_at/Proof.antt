@@ -1,10 +1,10 @@
--- `form::value::byte_at` meets its contract. Assumes nothing.
+-- `form::words::byte_at` meets its contract. Assumes nothing.
 use Rattle.form.proofs.Digits.{byte-end, byte-in}
 use native.Mathlib.Omega.{arith}
 use mathlib.Core.Path.{sym}
 use borrow.Author.Needs.{needs}
-use Rattle.form.proofs.value.byte_at.Statement.{statement}
-use Rattle.form.proofs.value.byte_at.Tie as tie
+use Rattle.form.proofs.words.byte_at.Statement.{statement}
+use Rattle.form.proofs.words.byte_at.Tie as tie
 
 returns : tie.Need-returns
 returns c = sym (byte-end _ _ (c .if1 .taken))

@@ -1,4 +1,4 @@
--- `form::value::word_at` meets its contract. Assumes nothing.
+-- `form::words::word_at` meets its contract. Assumes nothing.
 use mathlib.Core.Path.{_≡_}
 use mir.Val.{toZ, ofZ}
 use mir.Syntax.{w64}
@@ -6,8 +6,8 @@ use lib.ListN.{getD}
 use lib.IntN.{pos}
 use denote.Ref.{now}
 use borrow.Author.Needs.{needs}
-use Rattle.form.proofs.value.word_at.Statement.{statement}
-use Rattle.form.proofs.value.word_at.Tie as tie
+use Rattle.form.proofs.words.word_at.Statement.{statement}
+use Rattle.form.proofs.words.word_at.Tie as tie
 
 mul-word : tie.Need-mul-word
 mul-word c = search needs

@@ -1,8 +1,8 @@
--- `gateway::shapes::reading_of` meets its contract. Assumes nothing.
-use Rattle.gateway.specs.Shapes.{readingOf}
+-- `gateway::shapes::reading_from` meets its contract. Assumes nothing.
+use Rattle.gateway.specs.Shapes.{readingFrom}
 use borrow.Author.Needs.{needs}
-use Rattle.gateway.proofs.shapes.reading_of.Statement.{statement}
-use Rattle.gateway.proofs.shapes.reading_of.Tie as tie
+use Rattle.gateway.proofs.shapes.reading_from.Statement.{statement}
+use Rattle.gateway.proofs.shapes.reading_from.Tie as tie
 
 shared-slice-read-from-pattern : tie.Need-shared-slice-read-from-pattern
 shared-slice-read-from-pattern c = search needs
@@ -38,11 +38,11 @@ shared-slice-read-t21 : tie.Need-shared-slice-read-t21
 shared-slice-read-t21 c = search needs
 
 returns : tie.Need-returns
-unfolding readingOf
+unfolding readingFrom
 returns c = rw (c .before .before .before .before .before .before .before .before .before .from-pattern .ensures)
 
-pub reading-of-spec : {M : Type 1} → statement M
-reading-of-spec =
+pub reading-from-spec : {M : Type 1} → statement M
+reading-from-spec =
     tie.close
     (tie.spec
     shared-slice-read-from-pattern

@@ -1,7 +1,7 @@
--- `form::decimal::negative` meets its contract. Assumes nothing.
+-- `form::words::negative` meets its contract. Assumes nothing.
 use Rattle.form.specs.Signed.{is-neg}
-use Rattle.form.proofs.decimal.negative.Statement.{statement}
-use Rattle.form.proofs.decimal.negative.Tie as tie
+use Rattle.form.proofs.words.negative.Statement.{statement}
+use Rattle.form.proofs.words.negative.Tie as tie
 
 returns : tie.Need-returns
 returns c = is-neg _ (c .fits .z)

@@ -1,4 +1,4 @@
--- `form::size` meets its contract: a number below 0 is `negsuc n`, and -1 less it is n. Assumes nothing.
+-- `form::words::size` meets its contract: a number below 0 is `negsuc n`, and -1 less it is n. Assumes nothing.
 use mathlib.Core.Path.{_≡_}
 use Prim.Native.Nat.{ℕ, _<_, _^_}
 use native.Mathlib.Omega.{arith}
@@ -6,8 +6,8 @@ use lib.IntN.{pos, negsuc}
 use mir.Facts.{toZ-pos, toZ-ofZ}
 use mir.Syntax.{w64}
 use Rattle.form.specs.Signed.{sub-one, below-zero, not-below}
-use Rattle.form.proofs.decimal.size.Statement.{statement}
-use Rattle.form.proofs.decimal.size.Tie as tie
+use Rattle.form.proofs.words.size.Statement.{statement}
+use Rattle.form.proofs.words.size.Tie as tie
 
 neg : (c : tie.Then1) → (n : ℕ) × (c .before .args .z ≡ negsuc n) × (n < 2 ^ 63)
 neg c = below-zero _ (c .before .fits .z) (rw (toZ-ofZ (c .before .fits .z)) at (c .if1 .taken))

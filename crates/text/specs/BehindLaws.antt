@@ -1,0 +1,125 @@
+-- Each reader looks at nothing after its card or its one line. Assumes nothing.
+use mathlib.Core.Path.{_≡_, refl, ap}
+use mathlib.Core.Bool.{Bool, true, false, cond, false≢true}
+use mathlib.Core.List.{List}
+use Prim.Native.Nat.{ℕ, zero, suc, _+_, _*_, _≤_, _<_}
+use native.Mathlib.Omega.{arith}
+use lib.Dec.{eqb, ltb}
+use lib.IntN.{pos}
+use lib.ListN.{getD}
+use borrow.Author.Tests.{eqb-true, eqb-false, ne-eqb}
+use Rattle.cell.specs.Ranges.{countsOk}
+use Rattle.form.specs.Form.{Out, formAt, byteAt}
+use Rattle.form.specs.Many.{Run, manyAt}
+use Rattle.form.specs.Words.{wordOf}
+use Rattle.form.specs.Ends.{lineEnds, firstLine, firstLines}
+use Rattle.form.specs.BehindLaws.{SameLines, same-start, form-line, form-same, form-next, many-same, many-next, byte-same, end-next}
+use Rattle.text.specs.declared.card.Counts.{Counts}
+use Rattle.text.specs.Lines.{readingForm, cardForm, depthForm, soilForm}
+use Rattle.text.specs.Readings.{resultOf, readReading}
+use Rattle.text.specs.Cards.{rangeCounts, countsOf, countsOfOut, depthsAt, Parsed, parse}
+
+-- reading a reading looks at the text's first line only, accepted or refused
+pub reading-behind : (s : List ℕ) → readReading s ≡ readReading (firstLine s)
+unfolding readReading
+reading-behind s = ap resultOf (form-line readingForm s refl refl)
+
+-- the lines that reading a card looks at: its own, or those up to the malformed one
+abbrev pub cardLines : Parsed → ℕ
+cardLines p = cond (eqb (p .line) 0) (suc (p .card .cells)) (p .line)
+
+-- counts in range leave the place as it is
+range-next : (n a b : ℕ) → rangeCounts n a b .ok ≡ true → rangeCounts n a b .next ≡ n
+unfolding rangeCounts
+range-next n a b e = go (countsOk a b) refl
+  where
+    go : (x : Bool) → countsOk a b ≡ x → rangeCounts n a b .next ≡ n
+    go true p = rw p
+    go false p = absurd (false≢true (rw p at e))
+
+module _ (s s' : List ℕ) (k : ℕ) (g : SameLines (suc k) s s' 0) where
+  counts-same : countsOf s ≡ countsOf s'
+  unfolding countsOf
+  counts-same = ap countsOfOut (form-same cardForm s s' 0 (suc k) refl refl (omega arith) g)
+
+  -- behind the counts
+  counts-next : countsOf s .ok ≡ true → SameLines (suc k) s s' (countsOf s .next)
+  unfolding countsOf
+  counts-next e = go (formAt cardForm s 0 .ok) refl
+    where
+      go : (b : Bool) → formAt cardForm s 0 .ok ≡ b → SameLines (suc k) s s' (countsOf s .next)
+      go false x = absurd (false≢true (rw x at e))
+      go true x =
+          let o = formAt cardForm s 0 in
+          let z : 0 + suc k ≡ suc k = omega arith in
+          let r = range-next (o .next) (wordOf (getD (o .vals) 0 (pos 0))) (wordOf (getD (o .vals) 1 (pos 0))) (rw x at e) in
+          rw (x, r) (form-next cardForm s s' 0 (suc k) refl (rw z g) (form-same cardForm s s' 0 (suc k) refl refl (omega arith) g) x)
+
+module _ (n : ℕ) (s s' : List ℕ) (at k : ℕ) (g : SameLines (suc k) s s' at) where
+  runs : manyAt n depthForm s at ≡ manyAt n depthForm s' at
+  runs = many-same n depthForm s s' at (suc k) refl refl (λ i a b. omega arith) g
+
+  module _ (o : manyAt n depthForm s at .ok ≡ true) where
+    runs-next : SameLines (suc k) s s' (manyAt n depthForm s at .next)
+    runs-next = let z : n * lineEnds depthForm + suc k ≡ suc k = omega arith in many-next n depthForm s s' at (suc k) refl (rw z g) runs o
+
+  depths-same : depthsAt n s at ≡ depthsAt n s' at
+  unfolding depthsAt
+  depths-same = go (manyAt n depthForm s at .ok) refl
+    where
+      go : (b : Bool) → manyAt n depthForm s at .ok ≡ b → depthsAt n s at ≡ depthsAt n s' at
+      go true o = rw (← runs, o, byte-same s s' (manyAt n depthForm s at .next) (suc k) (omega arith) (runs-next o))
+      go false o = rw (← runs, o)
+
+  -- behind the first line
+  depths-next : depthsAt n s at .ok ≡ true → SameLines k s s' (depthsAt n s at .next)
+  unfolding depthsAt
+  depths-next e = go (manyAt n depthForm s at .ok) refl (eqb (byteAt s (manyAt n depthForm s at .next)) 10) refl
+    where
+      go : (b : Bool) → manyAt n depthForm s at .ok ≡ b → (y : Bool) → eqb (byteAt s (manyAt n depthForm s at .next)) 10 ≡ y → SameLines k s s' (depthsAt n s at .next)
+      go false o y q = absurd (false≢true (rw o at e))
+      go true o false q = absurd (false≢true (rw (o, q) at e))
+      go true o true q = rw (o, q) (end-next s s' (manyAt n depthForm s at .next) k (runs-next o) (eqb-true (byteAt s (manyAt n depthForm s at .next)) 10 q))
+
+-- two texts that show the same lines are read alike where no more of them are looked at
+card-same : (s s' : List ℕ) (k : ℕ) → cardLines (parse s) ≤ suc k → SameLines (suc k) s s' 0 → parse s ≡ parse s'
+unfolding parse
+card-same s s' k h g = go (hh .ok) refl (dd .ok) refl
+  where
+    hh : Counts
+    hh = countsOf s
+
+    dd : Out
+    dd = depthsAt (hh .delays) s (hh .next)
+
+    mm : Run
+    mm = manyAt (hh .cells) soilForm s (dd .next)
+
+    soil-same : SameLines k s s' (dd .next) → (z : Bool) → mm .ok ≡ z → hh .ok ≡ true → dd .ok ≡ true → mm ≡ manyAt (hh .cells) soilForm s' (dd .next)
+    soil-same q true z x y =
+        let c : suc (hh .cells) ≤ suc k = rw (x, y, z) at h in
+        many-same (hh .cells) soilForm s s' (dd .next) k refl refl (λ i a b. omega arith) q
+    soil-same q false z x y =
+        let c : mm .good + 2 ≤ suc k = rw (x, y, z, ne-eqb (mm .good + 2) 0 (omega arith)) at h in
+        many-same (hh .cells) soilForm s s' (dd .next) k refl refl (λ i a b. omega arith) q
+
+    go : (x : Bool) → hh .ok ≡ x → (y : Bool) → dd .ok ≡ y → parse s ≡ parse s'
+    go false x y r = rw (← counts-same s s' k g, x)
+    go true x false r = rw (← counts-same s s' k g, x, ← depths-same (hh .delays) s s' (hh .next) k (counts-next s s' k g x), r)
+    go true x true r =
+        let q = counts-next s s' k g x in
+        let d = depths-same (hh .delays) s s' (hh .next) k q in
+        let m = soil-same (depths-next (hh .delays) s s' (hh .next) k q r) (mm .ok) refl x r in
+        rw (← counts-same s s' k g, ← d, ← m)
+
+-- reading a card looks at its own lines only, and at none behind a malformed one
+pub card-behind : (s : List ℕ) → parse s ≡ parse (firstLines (cardLines (parse s)) s)
+card-behind s = go (cardLines (parse s)) refl
+  where
+    some : (b : Bool) → eqb (parse s .line) 0 ≡ b → 0 < cardLines (parse s)
+    some true e = rw e (omega arith)
+    some false e = rw e (omega (arith, eqb-false (parse s .line) 0 e))
+
+    go : (n : ℕ) → cardLines (parse s) ≡ n → parse s ≡ parse (firstLines n s)
+    go zero e = absurd (omega (arith, some (eqb (parse s .line) 0) refl))
+    go (suc k) e = card-same s (firstLines (suc k) s) k (omega arith) (same-start (suc k) s)
