@@ -15,6 +15,10 @@ depthsOf first second = first ∷ second ∷ replicate 28 0
 abbrev pub cardOf : ℕ → ℕ → Card
 cardOf cells delays = record { cells = cells; delays = delays; depths = depthsOf 1000000 2000000 }
 
+-- the card of one plot without delays
+abbrev pub bareCard : Card
+bareCard = record { cells = 1; delays = 0; depths = depthsOf 0 0 }
+
 -- top, etdepth, vadpor, leak, cn
 abbrev pub soilNumbers : List ℤ
 soilNumbers = pos 10000000 ∷ pos 1500000 ∷ pos 200 ∷ pos 100000 ∷ pos 80 ∷ []

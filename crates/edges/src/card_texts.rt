@@ -4,77 +4,69 @@ use crate::show;
 use cell::Card;
 
 // A card, written into a buffer.
-fn write(label: &[u8], card: Card, soil: &[i64], buf: &mut [u8]) {
+fn write(card: Card, soil: &[i64], buf: &mut [u8]) {
     let w = text::card::write(card, soil, buf);
-    io::write_all(1, label);
-    show::pair(b"code=", w.number);
-    show::count(b" length=", w.len);
-    io::write_all(1, b"\n");
+    show::form(
+        b"written: code=# length=#\n",
+        &[w.number as u64, w.len as u64],
+    );
     show::line(buf, w.len);
 }
 
-// A card, read from a text with room for so many soil numbers, and written again.
-fn read_into(label: &[u8], s: &[u8], soil: &mut [i64]) {
+// A card, read from a text that stands between two bars, and written again.
+fn read_into(s: &[u8], soil: &mut [i64]) {
     let x = text::card::read(s, soil);
-    io::write_all(1, label);
-    show::pair(b"code=", x.number);
-    show::count(b" taken=", x.taken);
-    show::count(b" line=", x.line);
+    io::write_all(1, b"|");
+    io::write_all(1, s);
+    show::form(
+        b"|code=# taken=# line=#, ",
+        &[x.number as u64, x.taken as u64, x.line as u64],
+    );
     let mut buf = [0u8; 300];
-    write(b", written again ", x.card, soil, &mut buf);
+    write(x.card, soil, &mut buf);
 }
 
 // A card, read from a text, with room for one plot.
-fn read(label: &[u8], s: &[u8]) {
+fn read(s: &[u8]) {
     let mut soil = [0i64; 5];
-    read_into(label, s, &mut soil);
+    read_into(s, &mut soil);
 }
 
-// Room for the soil numbers, and the number of cells.
-fn reading() {
+// Room for the soil numbers, and for one number less.
+fn rooms() {
     let good = b"cells=1 delays=2 depth=1000000 depth=2000000\n\
           top=10000000 etdepth=1500000 vadpor=200 leak=100000 cn=80\n";
     let mut four = [0i64; 4];
-    read(b"a card: ", good);
-    read_into(b"a card, room for 4 soil numbers: ", good, &mut four);
-    read(b"a card of no cells: ", b"cells=0 delays=0\n");
-    read(
-        b"a card of 256 cells without their lines: ",
-        b"cells=256 delays=0\n",
-    );
-    read(
-        b"a card of 257 cells without their lines: ",
-        b"cells=257 delays=0\n",
-    );
+    read(good);
+    io::write_all(1, b"room for 4 soil numbers: ");
+    read_into(good, &mut four);
 }
 
-// A top that fits a signed 64-bit number, and two that are malformed.
+// The number of cells, without their lines.
+fn cells() {
+    read(b"cells=0 delays=0\n");
+    read(b"cells=256 delays=0\n");
+    read(b"cells=257 delays=0\n");
+}
+
+// Tops that fit a signed 64-bit number, and tops that are malformed.
 fn tops() {
-    read(
-        b"a top of -0: ",
-        b"cells=1 delays=0\ntop=-0 etdepth=1 vadpor=1 leak=0 cn=1\n",
-    );
-    read(
-        b"a top of 9223372036854775807: ",
-        b"cells=1 delays=0\ntop=9223372036854775807 etdepth=1 vadpor=1 leak=0 cn=1\n",
-    );
-    read(
-        b"a top of 9223372036854775808: ",
-        b"cells=1 delays=0\ntop=9223372036854775808 etdepth=1 vadpor=1 leak=0 cn=1\n",
-    );
+    read(b"cells=1 delays=0\ntop=-0 etdepth=1 vadpor=1 leak=0 cn=1\n");
+    read(b"cells=1 delays=0\ntop=9223372036854775807 etdepth=1 vadpor=1 leak=0 cn=1\n");
+    read(b"cells=1 delays=0\ntop=9223372036854775808 etdepth=1 vadpor=1 leak=0 cn=1\n");
+    read(b"cells=1 delays=0\ntop=-9223372036854775808 etdepth=1 vadpor=1 leak=0 cn=1\n");
+    read(b"cells=1 delays=0\ntop=-9223372036854775809 etdepth=1 vadpor=1 leak=0 cn=1\n");
 }
 
 // A depth for each delay, and no line for the plot.
 fn delays() {
     read(
-        b"a card of 30 delays without its plot: ",
         b"cells=1 delays=30 \
           depth=1 depth=1 depth=1 depth=1 depth=1 depth=1 depth=1 depth=1 depth=1 depth=1 \
           depth=1 depth=1 depth=1 depth=1 depth=1 depth=1 depth=1 depth=1 depth=1 depth=1 \
           depth=1 depth=1 depth=1 depth=1 depth=1 depth=1 depth=1 depth=1 depth=1 depth=1\n",
     );
     read(
-        b"a card of 31 delays without its plot: ",
         b"cells=1 delays=31 \
           depth=1 depth=1 depth=1 depth=1 depth=1 depth=1 depth=1 depth=1 depth=1 depth=1 \
           depth=1 depth=1 depth=1 depth=1 depth=1 depth=1 depth=1 depth=1 depth=1 depth=1 \
@@ -83,42 +75,44 @@ fn delays() {
     );
 }
 
-// A card, written into a buffer that the example's text just fills.
-fn write_fitted(label: &[u8], card: Card, soil: &[i64]) {
+// The example's card for so many plots and with so many delays, its soil numbers with this leak, written into 103 bytes.
+fn put(cells: u32, delays: u32, leak: i64) {
+    show::form(b"cells=# delays=#", &[cells as u64, delays as u64]);
+    show::signed(b" leak=", leak);
+    io::write_all(1, b", room for 103 bytes, ");
+    let soil = [10000000, 1500000, 200, leak, 80];
     let mut buf = [0u8; 103];
-    write(label, card, soil, &mut buf);
+    write(plots::card_of(cells, delays), &soil, &mut buf);
 }
 
-// The example's soil numbers, written under a card.
-fn under(label: &[u8], card: Card) {
+// A buffer one byte short.
+fn short() {
+    io::write_all(1, b"cells=1 delays=2 leak=100000, room for 102 bytes, ");
     let soil = plots::soil();
-    write_fitted(label, card, &soil);
+    let mut buf = [0u8; 102];
+    write(plots::card(), &soil, &mut buf);
 }
 
-// Cards that no text gives, soil numbers that do not fit, and a short buffer.
-fn writing() {
-    let soil = plots::soil();
-    let four = [10000000i64, 1500000, 200, 100000];
-    let below = [10000000i64, 1500000, 200, -1, 80];
-    let mut short = [0u8; 102];
-    write(
-        b"writing a card into 102 bytes: ",
-        plots::card(),
-        &soil,
-        &mut short,
-    );
-    under(b"writing a card into 103 bytes: ", plots::card());
-    under(b"writing a card of no cells: ", plots::card_of(0, 2));
-    under(b"writing a card of 257 cells: ", plots::card_of(257, 2));
-    under(b"writing a card of 31 delays: ", plots::card_of(1, 31));
-    under(b"writing a card with place 2 not 0: ", plots::card_of(1, 1));
-    write_fitted(b"writing 4 soil numbers: ", plots::card(), &four);
-    write_fitted(b"writing a leak of -1: ", plots::card(), &below);
+// A soil number missing.
+fn four() {
+    io::write_all(1, b"cells=1 delays=2, 4 soil numbers, room for 103 bytes, ");
+    let soil = [10000000i64, 1500000, 200, 100000];
+    let mut buf = [0u8; 103];
+    write(plots::card(), &soil, &mut buf);
 }
 
 pub fn cases() {
-    reading();
+    rooms();
+    cells();
     tops();
     delays();
-    writing();
+    // Writing: a short buffer, cards that no text gives, and soil numbers that do not fit.
+    short();
+    put(1, 2, 100000);
+    put(0, 2, 100000);
+    put(257, 2, 100000);
+    put(1, 31, 100000);
+    put(1, 1, 100000);
+    four();
+    put(1, 2, -1);
 }

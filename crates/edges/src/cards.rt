@@ -1,26 +1,23 @@
-// Number 1: the card.
+// Number 1: the card. A card without delays.
 use crate::plots;
 use crate::show;
 use cell::Card;
 
-// The example's reading, under another card.
-fn under(label: &[u8], card: Card) {
+// The example's reading, under a card of so many plots and delays, with two depths.
+fn two(cells: u32, delays: u32, first: u32, second: u32) {
+    show::form(
+        b"cells=# delays=# depth=# depth=#",
+        &[cells as u64, delays as u64, first as u64, second as u64],
+    );
+    let depths = plots::depths(first, second);
+    let card = Card {
+        cells,
+        delays,
+        depths,
+    };
     let soil = plots::soil();
     let mut rows = [0u32; 32];
-    show::step(label, card, &soil, &mut rows, plots::reading());
-}
-
-// One plot with two delays, at these depths.
-fn two(label: &[u8], first: u32, second: u32) {
-    let depths = plots::depths(first, second);
-    under(
-        label,
-        Card {
-            cells: 1,
-            delays: 2,
-            depths,
-        },
-    );
+    show::step(card, &soil, &mut rows, plots::reading());
 }
 
 // A depth in each of the 30 places, one metre below the last.
@@ -59,32 +56,44 @@ fn full() -> [u32; 30] {
     ]
 }
 
-// One plot with so many delays, and no place unused.
-fn many(label: &[u8], delays: u32) {
-    let depths = full();
-    under(
-        label,
-        Card {
-            cells: 1,
-            delays,
-            depths,
-        },
+// One plot with so many delays and a depth in each of the 30 places, and water in the first and the last slot.
+fn many(delays: u32) {
+    show::form(
+        b"30 depths, slot 1 at 5, slot 30 at 2000000, delays=#",
+        &[delays as u64],
     );
+    let depths = full();
+    let card = Card {
+        cells: 1,
+        delays,
+        depths,
+    };
+    let soil = plots::soil();
+    let mut rows = [0u32; 32];
+    rows[2] = 5;
+    rows[31] = 2000000;
+    show::step(card, &soil, &mut rows, plots::reading());
 }
 
 pub fn cases() {
-    two(b"depths 1000000 and 2000000: ", 1000000, 2000000);
-    two(b"depths equal: ", 1000000, 1000000);
-    two(b"depths rising by 1: ", 1000000, 1000001);
-    two(b"depths falling by 1: ", 1000000, 999999);
-    two(b"first depth 0: ", 0, 2000000);
-    two(b"first depth 1: ", 1, 2000000);
-    two(b"second depth 1000000000: ", 1000000, 1000000000);
-    two(b"second depth 1000000001: ", 1000000, 1000000001);
-    under(b"one delay, place 2 not 0: ", plots::card_of(1, 1));
-    many(b"29 delays, place 30 not 0: ", 29);
-    many(b"30 delays: ", 30);
-    many(b"31 delays: ", 31);
-    under(b"no cells: ", plots::card_of(0, 2));
-    under(b"257 cells: ", plots::card_of(257, 2));
+    // Depths that rise, and depths in range.
+    two(1, 2, 1000000, 2000000);
+    two(1, 2, 1000000, 1000000);
+    two(1, 2, 1000000, 1000001);
+    two(1, 2, 1000000, 999999);
+    two(1, 2, 0, 2000000);
+    two(1, 2, 1, 2000000);
+    two(1, 2, 1000000, 1000000000);
+    two(1, 2, 1000000, 1000000001);
+    // Places in use and not, and a card without delays.
+    two(1, 1, 1000000, 0);
+    two(1, 1, 1000000, 2000000);
+    two(1, 0, 0, 0);
+    two(1, 0, 1, 0);
+    // The most delays, and the numbers of cells out of range.
+    many(29);
+    many(30);
+    many(31);
+    two(0, 2, 1000000, 2000000);
+    two(257, 2, 1000000, 2000000);
 }

@@ -1,6 +1,6 @@
 // The plot of document 01's example, which each case changes in one place.
 ghost use mathlib.Core.Path.{_≡_};
-ghost use Rattle.edges.specs.Plots.{depthsOf, cardOf, soilNumbers, readingAt};
+ghost use Rattle.edges.specs.Plots.{depthsOf, cardOf, bareCard, soilNumbers, readingAt};
 use cell::Card;
 use cell::Reading;
 
@@ -31,6 +31,18 @@ pub fn card() -> Card
     ensures { λ r. ⌜ r ≡ cardOf 1 2 ⌝ }
 {
     card_of(1, 2)
+}
+
+// The card of one plot without delays.
+pub fn card_without_delays() -> Card
+    ensures { λ r. ⌜ r ≡ bareCard ⌝ }
+{
+    let depths = depths(0, 0);
+    Card {
+        cells: 1,
+        delays: 0,
+        depths,
+    }
 }
 
 // Its soil numbers: top, etdepth, vadpor, leak, cn.

@@ -2,19 +2,28 @@
 ghost use Prim.Native.Nat.{_<_};
 use crate::plots;
 use crate::show;
+use cell::Card;
 
-// The example's reading, on a row with water at one place: slot k stands at place k + 1.
-fn waiting(label: &[u8], place: usize, water: u32)
-    requires { ⌜ place < 32 ⌝ }
+// The example's reading, under a card, on a row with water in one slot.
+fn waiting(card: Card, slot: usize, water: u32)
+    requires { ⌜ slot < 31 ⌝ }
 {
+    show::form(
+        b"slot # of # at #",
+        &[slot as u64, card.delays as u64, water as u64],
+    );
     let soil = plots::soil();
     let mut rows = [0u32; 32];
-    rows[place] = water;
-    show::step(label, plots::card(), &soil, &mut rows, plots::reading());
+    rows[slot + 1] = water;
+    show::step(card, &soil, &mut rows, plots::reading());
 }
 
 // A reading of this life and count, on a row of that life and next count.
-fn turn(label: &[u8], row_life: u32, next: u32, life: u32, count: u32) {
+fn turn(row_life: u32, next: u32, life: u32, count: u32) {
+    show::form(
+        b"row (#,#), reading (#,#)",
+        &[row_life as u64, next as u64, life as u64, count as u64],
+    );
     let soil = plots::soil();
     let mut rows = [0u32; 32];
     rows[0] = row_life;
@@ -22,60 +31,35 @@ fn turn(label: &[u8], row_life: u32, next: u32, life: u32, count: u32) {
     let mut r = plots::reading();
     r.life = life;
     r.count = count;
-    show::step(label, plots::card(), &soil, &mut rows, r);
-}
-
-// Number 5: with two delays slot 1 takes 4,000,000, slot 2 half of that, and no other slot any.
-fn slots() {
-    waiting(b"slot 1 of 2 at 4000000: ", 2, 4000000);
-    waiting(b"slot 1 of 2 at 4000001: ", 2, 4000001);
-    waiting(b"slot 2 of 2 at 2000000: ", 3, 2000000);
-    waiting(b"slot 2 of 2 at 2000001: ", 3, 2000001);
-    waiting(b"slot 3 of 2 at 1: ", 4, 1);
-    waiting(b"slot 30 of 2 at 1: ", 31, 1);
-}
-
-// Numbers 6 and 7: row life 3, next 7.
-fn turns() {
-    turn(b"row (3,7), reading (3,6): ", 3, 7, 3, 6);
-    turn(b"row (3,7), reading (3,7): ", 3, 7, 3, 7);
-    turn(b"row (3,7), reading (3,8): ", 3, 7, 3, 8);
-    turn(b"row (3,7), reading (5,1): ", 3, 7, 5, 1);
-    turn(b"row (3,7), reading (5,0): ", 3, 7, 5, 0);
-    turn(b"row (3,7), reading (2,900): ", 3, 7, 2, 900);
-}
-
-// The ends of lives and counts: 5 by the row, 8 by the reading.
-fn ends() {
-    turn(b"row (65535,0), reading (65535,0): ", 65535, 0, 65535, 0);
-    turn(b"row (65536,0), reading (65536,0): ", 65536, 0, 65536, 0);
-    turn(b"row (0,0), reading (65535,0): ", 0, 0, 65535, 0);
-    turn(b"row (0,0), reading (65536,0): ", 0, 0, 65536, 0);
-    turn(
-        b"row (0,999999), reading (0,999999): ",
-        0,
-        999999,
-        0,
-        999999,
-    );
-    turn(
-        b"row (0,1000000), reading (0,1000000): ",
-        0,
-        1000000,
-        0,
-        1000000,
-    );
-    turn(
-        b"row (0,1000001), reading (0,1000001): ",
-        0,
-        1000001,
-        0,
-        1000001,
-    );
+    show::step(plots::card(), &soil, &mut rows, r);
 }
 
 pub fn cases() {
-    slots();
-    turns();
-    ends();
+    // Number 5: with two delays slot 1 takes 4,000,000, slot 2 half of that, and no other slot any; without delays none does.
+    let two = plots::card();
+    let none = plots::card_without_delays();
+    waiting(two, 1, 4000000);
+    waiting(two, 1, 4000001);
+    waiting(two, 2, 2000000);
+    waiting(two, 2, 2000001);
+    waiting(two, 3, 0);
+    waiting(two, 3, 1);
+    waiting(two, 30, 1);
+    waiting(none, 1, 0);
+    waiting(none, 1, 1);
+    // Numbers 6 and 7: row life 3, next 7.
+    turn(3, 7, 3, 6);
+    turn(3, 7, 3, 7);
+    turn(3, 7, 3, 8);
+    turn(3, 7, 5, 1);
+    turn(3, 7, 5, 0);
+    turn(3, 7, 2, 900);
+    // The ends of lives and counts: 5 by the row, 8 by the reading.
+    turn(65535, 0, 65535, 0);
+    turn(65536, 0, 65536, 0);
+    turn(0, 0, 65535, 0);
+    turn(0, 0, 65536, 0);
+    turn(0, 999999, 0, 999999);
+    turn(0, 1000000, 0, 1000000);
+    turn(0, 1000001, 0, 1000001);
 }

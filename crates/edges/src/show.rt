@@ -1,8 +1,11 @@
-// What is printed of a case: its label, what came back, and the row as it then stands.
+// What is printed of a case: its numbers, what came back, and the row in use as it then stands.
+ghost use Prim.Native.Nat.{_≤_};
+ghost use lib.ListN.{length};
 use crate::plots;
 use cell::Answer;
 use cell::Card;
 use cell::Reading;
+use form::words::size;
 
 // The first len bytes of a text.
 pub fn line(text: &[u8], len: usize) {
@@ -11,16 +14,37 @@ pub fn line(text: &[u8], len: usize) {
     }
 }
 
-// A name and its number.
-pub fn pair(name: &[u8], number: u32) {
-    io::write_all(1, name);
-    io::print_decimal(1, number as u64);
+// One byte of a form: the next number in place of '#', else the byte itself. Hands back which number is next then.
+fn mark(byte: u8, numbers: &[u64], next: usize) -> usize {
+    if byte != b'#' {
+        let one = [byte];
+        io::write_all(1, &one);
+        return next;
+    }
+    if next < numbers.len() {
+        io::print_decimal(1, numbers[next]);
+        return next + 1;
+    }
+    next
 }
 
-// A name and a count of bytes or lines.
-pub fn count(name: &[u8], number: usize) {
+// A form, with the numbers in place of its marks.
+pub fn form(marked: &[u8], numbers: &[u64]) {
+    let mut next = 0;
+    let mut i = 0;
+    while i < marked.len() {
+        next = mark(marked[i], numbers, next);
+        i += 1;
+    }
+}
+
+// A name and a number with its sign.
+pub fn signed(name: &[u8], number: i64) {
     io::write_all(1, name);
-    io::print_decimal(1, number as u64);
+    if number < 0 {
+        io::write_all(1, b"-");
+    }
+    io::print_decimal(1, size(number));
 }
 
 // The line of an answer.
@@ -30,26 +54,54 @@ pub fn answer(cell: u32, answer: Answer) {
     line(&buf, w.len);
 }
 
-// A row's life, next count and first slot.
-pub fn row(row: &[u32]) {
-    if 2 < row.len() {
-        pair(b"  row after: life=", row[0]);
-        pair(b" next=", row[1]);
-        pair(b" slot=", row[2]);
+// The water in one slot.
+fn slot(water: u32) {
+    form(b" slot=#", &[water as u64]);
+}
+
+// The slots of a row up to this place.
+fn slots(row: &[u32], end: usize)
+    requires { ⌜ end ≤ length (now row) ⌝ }
+{
+    let mut i = 2;
+    while i < end {
+        slot(row[i]);
+        i += 1;
+    }
+}
+
+// How many of so many row numbers are in use: life, next count and a slot for each delay.
+fn in_use(len: usize, delays: u32) -> usize
+    ensures { λ r. ⌜ r ≤ len ⌝ }
+{
+    let used = 2 + delays as usize;
+    if len < used { len } else { used }
+}
+
+// A row's life and next count.
+fn turn(life: u32, next: u32) {
+    form(b"  row after: life=# next=#", &[life as u64, next as u64]);
+}
+
+// The life, the next count and the slots in use of the row that stands first.
+pub fn row(rows: &[u32], delays: u32) {
+    if 2 <= rows.len() {
+        turn(rows[0], rows[1]);
+        slots(rows, in_use(rows.len(), delays));
         io::write_all(1, b"\n");
     }
 }
 
 // One reading, given to a site, and the first plot's row after it.
-pub fn step(label: &[u8], card: Card, soil: &[i64], rows: &mut [u32], r: Reading) {
-    io::write_all(1, label);
+pub fn step(card: Card, soil: &[i64], rows: &mut [u32], r: Reading) {
+    io::write_all(1, b": ");
     answer(r.cell, site::step(card, soil, rows, r));
-    row(rows);
+    row(rows, card.delays);
 }
 
 // One reading, given to the example's plot, whose row holds zeros.
-pub fn reading(label: &[u8], r: Reading) {
+pub fn reading(r: Reading) {
     let soil = plots::soil();
     let mut rows = [0u32; 32];
-    step(label, plots::card(), &soil, &mut rows, r);
+    step(plots::card(), &soil, &mut rows, r);
 }

@@ -1,86 +1,134 @@
-// Numbers 2 and 3: the lengths of the slices, and the cell number. Clearing, which knows 1 and 2.
+// Numbers 2 and 3: the lengths of the slices, and the cell number; 4 and 5 by the named plot alone. Clearing, which knows 1 and 2.
+ghost use Prim.Native.Nat.{_≤_};
 use crate::plots;
 use crate::show;
-use cell::Card;
 
-// The example's reading, over slices of other lengths.
-fn lent(label: &[u8], soil: &[i64], rows: &mut [u32]) {
-    show::step(label, plots::card(), soil, rows, plots::reading());
-}
-
-// One number too few, one too many, and as many as the plot has.
-fn lengths() {
-    let short_soil = [10000000i64, 1500000, 200, 100000];
-    let soil = plots::soil();
-    let long_soil = [10000000i64, 1500000, 200, 100000, 80, 80];
-    let mut short_rows = [0u32; 31];
-    let mut rows = [0u32; 32];
-    let mut long_rows = [0u32; 33];
-    lent(b"4 soil numbers: ", &short_soil, &mut rows);
-    lent(b"6 soil numbers: ", &long_soil, &mut rows);
-    lent(b"31 row numbers: ", &soil, &mut short_rows);
-    lent(b"33 row numbers: ", &soil, &mut long_rows);
-    lent(b"5 soil and 32 row numbers: ", &soil, &mut rows);
-}
-
-// A site of 256 plots, the last of which is the example's; its row is printed.
-fn largest(label: &[u8], cell: u32) {
-    let mut soil = [0i64; 1280];
-    soil[1275] = 10000000;
-    soil[1276] = 1500000;
-    soil[1277] = 200;
-    soil[1278] = 100000;
-    soil[1279] = 80;
-    let mut rows = [0u32; 8192];
+// The example's reading for this cell, over these soil and row numbers.
+fn over(cells: u32, cell: u32, soil: &[i64], rows: &mut [u32]) {
+    show::form(
+        b"cells=# cell=#, soil numbers #, row numbers #",
+        &[
+            cells as u64,
+            cell as u64,
+            soil.len() as u64,
+            rows.len() as u64,
+        ],
+    );
     let mut r = plots::reading();
     r.cell = cell;
-    io::write_all(1, label);
+    show::step(plots::card_of(cells, 2), soil, rows, r);
+}
+
+// The same over so many of the soil and row numbers of two plots like the example's.
+fn lent(cells: u32, cell: u32, soils: usize, numbers: usize)
+    requires { ⌜ soils ≤ 11 ⌝ }
+    requires { ⌜ numbers ≤ 65 ⌝ }
+{
+    let soil = [
+        10000000,
+        1500000,
+        200,
+        100000,
+        80,
+        10000000,
+        1500000,
+        200,
+        100000,
+        80,
+        80,
+    ];
+    let mut rows = [0u32; 65];
+    over(cells, cell, &soil[..soils], &mut rows[..numbers]);
+}
+
+// The example's reading for this cell of two plots, the second under this top and with so much water in slot 1.
+fn beside(cell: u32, top: i64, water: u32) {
+    show::form(
+        b"cells=2 cell=#, second plot: slot=#",
+        &[cell as u64, water as u64],
+    );
+    show::signed(b" top=", top);
+    let soil = [
+        10000000,
+        1500000,
+        200,
+        100000,
+        80,
+        top,
+        1500000,
+        200,
+        100000,
+        80,
+    ];
+    let mut rows = [0u32; 64];
+    rows[34] = water;
+    let mut r = plots::reading();
+    r.cell = cell;
+    show::step(plots::card_of(2, 2), &soil, &mut rows, r);
+    show::row(&rows[32..], 2);
+}
+
+// A dry reading for this cell of 256 plots whose soil numbers are all 1; the last plot's row is printed.
+fn largest(cell: u32) {
+    show::form(b"cells=256 cell=#: ", &[cell as u64]);
+    let soil = [1i64; 1280];
+    let mut rows = [0u32; 8192];
+    let mut r = plots::reading_at(0xf149_f2ca);
+    r.cell = cell;
     show::answer(
         cell,
         site::step(plots::card_of(256, 2), &soil, &mut rows, r),
     );
-    show::row(&rows[8160..]);
+    show::row(&rows[8160..], 2);
 }
 
-// The cell number next to the only plot.
-fn one_plot() {
-    let mut r = plots::reading();
-    r.cell = 1;
-    show::reading(b"cell 1 of 1: ", r);
-}
-
-// Clears the rows, and prints the first.
-fn clear(label: &[u8], card: Card, rows: &mut [u32]) {
-    io::write_all(1, label);
-    show::pair(b"code=", site::clear(card, rows));
-    io::write_all(1, b"\n");
-    show::row(rows);
-}
-
-// Clearing; the check of the card comes first.
-fn clearing() {
-    let mut short_rows = [7u32; 31];
-    let mut rows = [7u32; 32];
-    let mut long_rows = [7u32; 33];
-    clear(
-        b"clearing under 31 delays: ",
-        plots::card_of(1, 31),
-        &mut rows,
+// Clears these rows under so many delays, and prints the first.
+fn cleared(delays: u32, rows: &mut [u32]) {
+    let number = site::clear(plots::card_of(1, delays), rows);
+    show::form(
+        b"clearing, row numbers #, delays=#: code=#\n",
+        &[rows.len() as u64, delays as u64, number as u64],
     );
-    clear(
-        b"clearing 33 row numbers under 31 delays: ",
-        plots::card_of(1, 31),
-        &mut long_rows,
-    );
-    clear(b"clearing 31 row numbers: ", plots::card(), &mut short_rows);
-    clear(b"clearing 33 row numbers: ", plots::card(), &mut long_rows);
-    clear(b"clearing 32 row numbers: ", plots::card(), &mut rows);
+    show::row(rows, 2);
+}
+
+// Clears so many row numbers under so many delays.
+fn clear(delays: u32, numbers: usize)
+    requires { ⌜ numbers ≤ 33 ⌝ }
+{
+    let mut rows = [7u32; 33];
+    cleared(delays, &mut rows[..numbers]);
 }
 
 pub fn cases() {
-    lengths();
-    one_plot();
-    largest(b"cell 255 of 256: ", 255);
-    largest(b"cell 256 of 256: ", 256);
-    clearing();
+    // One number too few, one too many, and as many as the plots have.
+    lent(1, 0, 4, 32);
+    lent(1, 0, 6, 32);
+    lent(1, 0, 5, 31);
+    lent(1, 0, 5, 33);
+    lent(1, 0, 5, 32);
+    lent(2, 0, 9, 64);
+    lent(2, 0, 11, 64);
+    lent(2, 0, 10, 63);
+    lent(2, 0, 10, 65);
+    lent(2, 0, 10, 64);
+    // The cell number at the number of cells, and below it.
+    lent(1, 1, 5, 32);
+    lent(2, 2, 10, 64);
+    beside(1, 10000000, 0);
+    // A soil number or a row out of range: the named plot's, and another plot's.
+    beside(1, 10000000000, 0);
+    beside(1, 10000000001, 0);
+    beside(0, 10000000001, 0);
+    beside(1, 10000000, 4000000);
+    beside(1, 10000000, 4000001);
+    beside(0, 10000000, 4000001);
+    largest(255);
+    largest(256);
+    // Clearing; the check of the card comes first.
+    clear(31, 32);
+    clear(31, 33);
+    clear(2, 31);
+    clear(2, 33);
+    clear(2, 32);
 }

@@ -1,42 +1,71 @@
-// Number 4: the soil numbers.
-ghost use Prim.Native.Nat.{_<_};
+// Number 4: the soil numbers. What the depth of the water table decides: delay, etsat and drain.
 use crate::plots;
 use crate::show;
 
-// The example's reading, with another number at one place of the soil.
-fn with(label: &[u8], place: usize, number: i64)
-    requires { ⌜ place < 5 ⌝ }
-{
-    let mut soil = plots::soil();
-    soil[place] = number;
+// The example's reading with this rain, whose level is 8,750,000, given to a plot of these soil numbers.
+fn plot(top: i64, etdepth: i64, vadpor: i64, leak: i64, cn: i64, rain: u32) {
+    show::form(b"rain=#", &[rain as u64]);
+    show::signed(b" top=", top);
+    show::signed(b" etdepth=", etdepth);
+    show::signed(b" vadpor=", vadpor);
+    show::signed(b" leak=", leak);
+    show::signed(b" cn=", cn);
+    let soil = [top, etdepth, vadpor, leak, cn];
     let mut rows = [0u32; 32];
-    show::step(label, plots::card(), &soil, &mut rows, plots::reading());
+    let mut r = plots::reading();
+    r.rain = rain;
+    show::step(plots::card(), &soil, &mut rows, r);
 }
 
-// The ends of the range of tops.
-fn tops() {
-    with(b"top -10000000001: ", 0, -10000000001);
-    with(b"top -10000000000: ", 0, -10000000000);
-    with(b"top 10000000000: ", 0, 10000000000);
-    with(b"top 10000000001: ", 0, 10000000001);
+// Number 4: both sides of each end.
+fn ranges() {
+    // The ends of the range of tops, and of the numbers of 64 bits.
+    plot(-9223372036854775808, 1500000, 200, 100000, 80, 50800);
+    plot(-9223372036854775807, 1500000, 200, 100000, 80, 50800);
+    plot(-10000000001, 1500000, 200, 100000, 80, 50800);
+    plot(-10000000000, 1500000, 200, 100000, 80, 50800);
+    plot(10000000000, 1500000, 200, 100000, 80, 50800);
+    plot(10000000001, 1500000, 200, 100000, 80, 50800);
+    plot(9223372036854775806, 1500000, 200, 100000, 80, 50800);
+    plot(9223372036854775807, 1500000, 200, 100000, 80, 50800);
+    // The ends of the other ranges.
+    plot(10000000, 0, 200, 100000, 80, 50800);
+    plot(10000000, 1, 200, 100000, 80, 50800);
+    plot(10000000, 100000000, 200, 100000, 80, 50800);
+    plot(10000000, 100000001, 200, 100000, 80, 50800);
+    plot(10000000, 1500000, 0, 100000, 80, 50800);
+    plot(10000000, 1500000, 1, 100000, 80, 50800);
+    plot(10000000, 1500000, 1000, 100000, 80, 50800);
+    plot(10000000, 1500000, 1001, 100000, 80, 50800);
+    plot(10000000, 1500000, 200, -1, 80, 50800);
+    plot(10000000, 1500000, 200, 0, 80, 50800);
+    plot(10000000, 1500000, 200, 1000000, 80, 50800);
+    plot(10000000, 1500000, 200, 1000001, 80, 50800);
+    plot(10000000, 1500000, 200, 100000, 0, 50800);
+    plot(10000000, 1500000, 200, 100000, 1, 50800);
+    plot(10000000, 1500000, 200, 100000, 100, 50800);
+    plot(10000000, 1500000, 200, 100000, 101, 50800);
+}
+
+// What the depth of the water table decides.
+fn depths() {
+    // Delay: the water table 1 above each delay depth, and at it.
+    plot(9749999, 1500000, 200, 100000, 80, 50800);
+    plot(9750000, 1500000, 200, 100000, 80, 50800);
+    plot(10749999, 1500000, 200, 100000, 80, 50800);
+    plot(10750000, 1500000, 200, 100000, 80, 50800);
+    // Drain and etsat: the water table 10, 9 and 1 over the top, at it and 1 under it; 1 above etdepth, at it and 1 under it.
+    plot(8749990, 1000, 200, 100000, 80, 0);
+    plot(8749991, 1000, 200, 100000, 80, 0);
+    plot(8749999, 1000, 200, 100000, 80, 0);
+    plot(8750000, 1000, 200, 100000, 80, 0);
+    plot(8750001, 1000, 200, 100000, 80, 0);
+    plot(8750999, 1000, 200, 100000, 80, 0);
+    plot(8751000, 1000, 200, 100000, 80, 0);
+    plot(8751001, 1000, 200, 100000, 80, 0);
 }
 
 pub fn cases() {
-    tops();
-    with(b"etdepth 0: ", 1, 0);
-    with(b"etdepth 1: ", 1, 1);
-    with(b"etdepth 100000000: ", 1, 100000000);
-    with(b"etdepth 100000001: ", 1, 100000001);
-    with(b"vadpor 0: ", 2, 0);
-    with(b"vadpor 1: ", 2, 1);
-    with(b"vadpor 1000: ", 2, 1000);
-    with(b"vadpor 1001: ", 2, 1001);
-    with(b"leak -1: ", 3, -1);
-    with(b"leak 0: ", 3, 0);
-    with(b"leak 1000000: ", 3, 1000000);
-    with(b"leak 1000001: ", 3, 1000001);
-    with(b"cn 0: ", 4, 0);
-    with(b"cn 1: ", 4, 1);
-    with(b"cn 100: ", 4, 100);
-    with(b"cn 101: ", 4, 101);
+    ranges();
+    depths();
 }
