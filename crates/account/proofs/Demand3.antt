@@ -1,8 +1,8 @@
 -- DEMAND 3. For any plot of a site, from its cleared row, over the answers that the site's step gave to any calls in any order, refused ones and other plots' among them. Assumes nothing.
-use mathlib.Core.Path.{_≡_, sym, _∙_}
+use mathlib.Core.Path.{_≡_, refl, sym, _∙_}
 use mathlib.Core.Bool.{true, _&&_}
 use mathlib.Core.Logic.{inr}
-use mathlib.Core.List.{List, []}
+use mathlib.Core.List.{List, [], _∷_}
 use Prim.Native.Nat.{ℕ, zero, suc, _<_, min}
 use lib.IntN.{ℤ, pos}
 use lib.ListN.{take, drop, getD, replicate}
@@ -20,8 +20,8 @@ use Rattle.cell.specs.CheckLaws.{InOrder, order-old, order-gap}
 use Rattle.cell.specs.Step.{stepAmounts}
 use Rattle.cell.specs.AnswerLaws.{lets-through, moves}
 use Rattle.site.specs.Rows.{partAt}
-use Rattle.site.specs.Site.{soilWidth, rowWidth, soilFits, rowsFit, cellFits, siteAnswer, ClearGives}
-use Rattle.site.specs.SiteLaws.{reached, cleared-part}
+use Rattle.site.specs.Site.{soilWidth, rowWidth, soilFits, rowsFit, cellFits, siteAnswer, siteRows, ClearGives}
+use Rattle.site.specs.SiteLaws.{gives, reached, cleared-part}
 use Rattle.account.specs.Ledger.{Kept, InSequence}
 use Rattle.account.specs.Run.{Call, Ran, done, then, rowOf, stepOf, historyOf}
 use Rattle.account.proofs.Induction.{start, step, along}
@@ -39,6 +39,13 @@ demand3 card p e ran =
 pub after-clearing : (card : Card) (p : ℕ) {rows cleared after : List ℕ} {cs : List Call} {answers : List Answer} → ClearGives card rows 0 cleared → p < card .cells
     → (ran : Ran card cleared cs answers after) → Kept (historyOf p [] ran) (queueOf (card .delays) (rowOf p after))
 after-clearing card p {rows} g h ran = demand3 card p (rw (g .rows-are) (cleared-part card rows (sym (g .number-is)) p h)) ran
+
+-- every list of calls has such a run: demand 3 speaks of something
+pub some-run : (card : Card) (rows : List ℕ) (cs : List Call) → (answers : List Answer) × (after : List ℕ) × Ran card rows cs answers after
+some-run card rows [] = ([], rows, done)
+some-run card rows (c ∷ cs) =
+    let m = some-run card (siteRows card (c .soil) rows (c .reading)) cs in
+    (siteAnswer card (c .soil) rows (c .reading) ∷ m .0, m .1, then (gives card (c .soil) rows (c .reading) refl refl) (m .2))
 
 -- at each moment: the first k calls and their answers are such a run from the same rows, and the rest is one from the rows that it left
 pub each-moment : (k : ℕ) {card : Card} {rows after : List ℕ} {cs : List Call} {answers : List Answer} → Ran card rows cs answers after

@@ -22,7 +22,7 @@ use Rattle.site.specs.SiteLaws.{row-answer, own-row, other-row, rows-stay}
 use Rattle.account.specs.Ledger.{Step, History, Kept, netRecharge}
 use Rattle.account.specs.Run.{Call, Ran, done, then, rowOf, stepOf, noted, historyOf}
 use Rattle.account.proofs.Sums.{up-stands}
-use Rattle.account.proofs.Signed.{carried}
+use Rattle.account.proofs.Signed.{carries}
 use Rattle.account.proofs.Groups.{group}
 use Rattle.account.proofs.Corollaries.{queue}
 
@@ -36,7 +36,7 @@ step {h} {q} {q'} s m v =
       drawn = (v .drawn, λ t k. up-stands (suc (length h)) (s .draws) t k ∙ sym (m .drawn));
       waits = λ t k. up-stands (suc (length h)) q' t k ∙ sym (m .rest);
       balance =
-          rw (m .net-is) (carried _ _ (s .amounts .inflow .0) _ (s .amounts .release .0 + m .fresh) (s .amounts .etsat .0 + s .amounts .drain .0) (netRecharge h) (v .balance) (omega (arith, queue v, m .rest, m .parts, m .totals)));
+          rw (m .net-is) (carries _ _ (s .amounts .inflow .0) _ (s .amounts .release .0 + m .fresh) (s .amounts .etsat .0 + s .amounts .drain .0) (netRecharge h) (v .balance) (omega (arith, queue v, m .rest, m .parts, m .totals)));
     }
 
 -- what holds of plot p's history and row, and is kept by each step that the row takes, is kept by a run

@@ -18,7 +18,7 @@ use Rattle.cell.specs.declared.checks.Verdict.{Verdict}
 use Rattle.cell.specs.declared.checks.Verdict.the-variants.{Fine, Bad}
 use Rattle.cell.specs.Ranges.{cardOk, soilOf, queueOf, rowOk, lifeOf, nextOf}
 use Rattle.cell.specs.Refusals.{verdictOf}
-use Rattle.cell.specs.CheckLaws.{Passed, passed, verdict-fine, verdict-card, checked, InOrder, in-order}
+use Rattle.cell.specs.CheckLaws.{Passed, passed, verdict-fine, verdict-card, checked, InOrder, order-is}
 use Rattle.cell.specs.Parts.{Checked}
 use Rattle.cell.specs.Queue.{slot, just, total, shifted, spared}
 use Rattle.cell.specs.QueueLaws.{total-in, slot-shifted, slot-spared, slot-joined, length-shifted, length-spared}
@@ -123,9 +123,9 @@ module _ (card : Card) (soil : List ℤ) (row : List ℕ) (r : Reading) where
   unfolding answerOf judged
   lets-through d p = rw (verdict-fine card soil row r d p)
 
-  pub taken : (a : Amounts) → answerOf card soil row r ≡ Accepted a → Taken card soil row r a
+  pub step-taken : (a : Amounts) → answerOf card soil row r ≡ Accepted a → Taken card soil row r a
   unfolding answerOf newRow stepDelay stepDraws judged
-  taken a e = go (verdictOf card soil row r) refl
+  step-taken a e = go (verdictOf card soil row r) refl
     where
       go : (v : Verdict) → verdictOf card soil row r ≡ v → Taken card soil row r a
       go (Fine d) f =
@@ -140,11 +140,11 @@ module _ (card : Card) (soil : List ℤ) (row : List ℕ) (r : Reading) where
   -- of an accepted call
   module _ (a : Amounts) (e : answerOf card soil row r ≡ Accepted a) where
     t : Taken card soil row r a
-    t = taken a e
+    t = step-taken a e
 
     -- the reading went on with the row's life at its next count, or started a higher life at 0
     pub was-in-order : InOrder (lifeOf row) (nextOf row) r
-    was-in-order = in-order (lifeOf row) (nextOf row) r (t .checks .not-old) (t .checks .not-gap)
+    was-in-order = order-is (lifeOf row) (nextOf row) r (t .checks .not-old) (t .checks .not-gap)
 
     -- the row has the reading's life and its count + 1
     pub life-after : lifeOf (newRow card soil row r) ≡ r .life

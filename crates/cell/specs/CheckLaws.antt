@@ -111,9 +111,9 @@ and-off true b p e = e
 and-off false b p e = let z : _≡_ {A = ℕ} 0 1 = cc in absurd (omega arith)
 
 -- neither old nor a gap: in order, and the other way round
-pub in-order : (life next : ℕ) (r : Reading) → isOld life next r ≡ false → isGap life next r ≡ false → InOrder life next r
+pub order-is : (life next : ℕ) (r : Reading) → isOld life next r ≡ false → isGap life next r ≡ false → InOrder life next r
 unfolding isOld isGap
-in-order life next r o g = go (ℕ-discrete (r .life) life)
+order-is life next r o g = go (ℕ-discrete (r .life) life)
   where
     p : (ltb (r .life) life ≡ false) × ((eqb (r .life) life && ltb (r .count) next) ≡ false)
     p = or-off (ltb (r .life) life) (eqb (r .life) life && ltb (r .count) next) o
@@ -181,19 +181,19 @@ module _ (card : Card) (soil : List ℤ) (row : List ℕ) (r : Reading) where
       go (Fine d) = refl
       go (Bad why) = refl
 
--- ---- a refusal's number is at most 10
-refusal-most : (why : Refusal) → refusalNumber why ≤ 10
-refusal-most BadCard = omega arith
-refusal-most BadLengths = omega arith
-refusal-most BadCell = omega arith
-refusal-most BadSoil = omega arith
-refusal-most BadRow = omega arith
-refusal-most Old = omega arith
-refusal-most Gap = omega arith
-refusal-most BadReading = omega arith
-refusal-most UnusableHead = omega arith
-refusal-most InactiveHead = omega arith
+-- ---- a refusal's number is in 1..10
+pub refusal-in : (why : Refusal) → (1 ≤ refusalNumber why) × (refusalNumber why ≤ 10)
+refusal-in BadCard = omega arith
+refusal-in BadLengths = omega arith
+refusal-in BadCell = omega arith
+refusal-in BadSoil = omega arith
+refusal-in BadRow = omega arith
+refusal-in Old = omega arith
+refusal-in Gap = omega arith
+refusal-in BadReading = omega arith
+refusal-in UnusableHead = omega arith
+refusal-in InactiveHead = omega arith
 
 pub number-most : (answer : Answer) → numberOf answer ≤ 10
 number-most (Accepted a) = omega arith
-number-most (Refused why) = refusal-most why
+number-most (Refused why) = refusal-in why .1

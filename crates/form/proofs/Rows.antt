@@ -10,14 +10,14 @@ use lib.Seq.{sets}
 use lib.IntN.{ℤ}
 use Rattle.form.specs.Put.{sets-step}
 use Rattle.form.specs.Form.{formAt, takenOf, marks}
-use Rattle.form.specs.Many.{Run, manyAt, ranOf}
+use Rattle.form.specs.Many.{Run, manyAt, stoodOf}
 use Rattle.form.specs.declared.line.Taken.{Taken}
-use Rattle.form.specs.declared.lines.Ran.{Ran}
+use Rattle.form.specs.declared.lines.Stood.{Stood}
 use Rattle.form.specs.RunLaws.{form-length, many-end, many-more, many-stop, rows-less}
 
 -- what was found so far and what is left come to the whole
 pub record Past (s f : List ℕ) (from n : ℕ) (at k : ℕ) : Type 0 where
-  pub ran : ranOf (manyAt n f s from) 0 ≡ ranOf (manyAt (n - k) f s at) k
+  pub ran : stoodOf (manyAt n f s from) 0 ≡ stoodOf (manyAt (n - k) f s at) k
   pub low : k ≤ n
 
 module _ (s f : List ℕ) (from n : ℕ) where
@@ -36,17 +36,17 @@ module _ (s f : List ℕ) (from n : ℕ) where
           let nx : t .next ≡ formAt f s at .next = ap (λ (x : Taken). x .next) e in
           let kk : k + suc (manyAt (n - (k + 1)) f s (formAt f s at .next) .good) ≡ (k + 1) + manyAt (n - (k + 1)) f s (formAt f s at .next) .good = omega arith in
           record {
-            ran = rw nx (i .ran ∙ ap (λ (r : Run). ranOf r k) m ∙ (λ x. record { ok = manyAt (n - (k + 1)) f s (formAt f s at .next) .ok; next = manyAt (n - (k + 1)) f s (formAt f s at .next) .next; good = kk x }));
+            ran = rw nx (i .ran ∙ ap (λ (r : Run). stoodOf r k) m ∙ (λ x. record { ok = manyAt (n - (k + 1)) f s (formAt f s at .next) .ok; next = manyAt (n - (k + 1)) f s (formAt f s at .next) .next; good = kk x }));
             low = omega arith;
           }
 
-      pub past-halt : t .ok ≡ false → _≡_ {A = Ran} (record { ok = false; next = 0; good = k }) (ranOf (manyAt n f s from) 0)
+      pub past-halt : t .ok ≡ false → _≡_ {A = Stood} (record { ok = false; next = 0; good = k }) (stoodOf (manyAt n f s from) 0)
       past-halt o =
           let o1 : formAt f s at .ok ≡ false = sym (ap (λ (x : Taken). x .ok) e) ∙ o in
-          sym (i .ran ∙ ap (λ (r : Run). ranOf r k) (many-stop (n - k) (n - (k + 1)) f s at rest o1) ∙ rw (add-zero k))
+          sym (i .ran ∙ ap (λ (r : Run). stoodOf r k) (many-stop (n - k) (n - (k + 1)) f s at rest o1) ∙ rw (add-zero k))
 
-    pub past-done : n ≤ k → _≡_ {A = Ran} (record { ok = true; next = at; good = k }) (ranOf (manyAt n f s from) 0)
-    past-done h = sym (i .ran ∙ ap (λ (r : Run). ranOf r k) (many-end (n - k) f s at (omega arith)) ∙ rw (add-zero k))
+    pub past-done : n ≤ k → _≡_ {A = Stood} (record { ok = true; next = at; good = k }) (stoodOf (manyAt n f s from) 0)
+    past-done h = sym (i .ran ∙ ap (λ (r : Run). stoodOf r k) (many-end (n - k) f s at (omega arith)) ∙ rw (add-zero k))
 
 -- the same where the values are kept
 pub record Inv (s f : List ℕ) (from w n : ℕ) (vals₀ : List ℤ) (first : ℕ) (vals : List ℤ) (at j k : ℕ) : Type 0 where
@@ -82,11 +82,11 @@ module _ (s f : List ℕ) (from w n : ℕ) (vals₀ : List ℤ) (first : ℕ) wh
             same = l ∙ i .same;
           }
 
-      pub halt : t .ok ≡ false → (_≡_ {A = Ran} (record { ok = false; next = 0; good = k }) (ranOf (manyAt n f s from) 0)) × (v ≡ sets vals₀ first (manyAt n f s from .vals))
+      pub halt : t .ok ≡ false → (_≡_ {A = Stood} (record { ok = false; next = 0; good = k }) (stoodOf (manyAt n f s from) 0)) × (v ≡ sets vals₀ first (manyAt n f s from .vals))
       halt o =
           let o1 : formAt f s at .ok ≡ false = sym (ap (λ (x : Taken). x .ok) e) ∙ o in
           (past-halt s f from n at k (i .past) t h e o, g ∙ sym (i .put ∙ ap (λ (r : Run). sets vals j (r .vals)) (many-stop (n - k) (n - (k + 1)) f s at left o1)))
 
-    pub done : n ≤ k → (_≡_ {A = Ran} (record { ok = true; next = at; good = k }) (ranOf (manyAt n f s from) 0)) × (vals ≡ sets vals₀ first (manyAt n f s from .vals))
+    pub done : n ≤ k → (_≡_ {A = Stood} (record { ok = true; next = at; good = k }) (stoodOf (manyAt n f s from) 0)) × (vals ≡ sets vals₀ first (manyAt n f s from .vals))
     done h =
         (past-done s f from n at k (i .past) h, sym (i .put ∙ ap (λ (r : Run). sets vals j (r .vals)) (many-end (n - k) f s at (omega arith))))

@@ -265,14 +265,12 @@ many-same (suc n) f s s' at k b o h g = go (formAt f s at .ok) refl (many-same n
 pub form-line : (f s : List ℕ) → all-bytes f ≡ true → oneLine f ≡ true → formAt f s 0 ≡ formAt f (firstLine s) 0
 form-line f s b o = form-same f s (firstLine s) 0 1 b o (omega arith) (same-start 1 s)
 
--- n rows of a line each are read as at the start of their n lines, or of the lines up to the first that does not stand there
-pub many-lines : (n : ℕ) (f s : List ℕ) → all-bytes f ≡ true → oneLine f ≡ true → lineEnds f ≡ 1
-    → manyAt n f s 0 ≡ manyAt n f (firstLines (cond (manyAt n f s 0 .ok) n (suc (manyAt n f s 0 .good))) s) 0
-many-lines n f s b o l = go (manyAt n f s 0 .ok)
+-- n rows of a line each: any text that starts with their n lines, or with the lines up to the first that does not stand there, is read alike
+pub many-lines : (n : ℕ) (f s s' : List ℕ) → all-bytes f ≡ true → oneLine f ≡ true → lineEnds f ≡ 1
+    → firstLines (cond (manyAt n f s 0 .ok) n (suc (manyAt n f s 0 .good))) s ≡ firstLines (cond (manyAt n f s 0 .ok) n (suc (manyAt n f s 0 .good))) s'
+    → manyAt n f s 0 ≡ manyAt n f s' 0
+many-lines n f s s' b o l e = many-same n f s s' 0 _ b o (starts (manyAt n f s 0 .ok)) (record { lines = e; room = omega arith; room' = omega arith })
   where
-    by : (k : ℕ) → ((i : ℕ) → i < n → i ≤ manyAt n f s 0 .good → i < k) → manyAt n f s 0 ≡ manyAt n f (firstLines k s) 0
-    by k h = many-same n f s (firstLines k s) 0 k b o (λ i a c. rw l (omega (arith, h i a c))) (same-start k s)
-
-    go : (x : Bool) → manyAt n f s 0 ≡ manyAt n f (firstLines (cond x n (suc (manyAt n f s 0 .good))) s) 0
-    go true = by n (λ i a c. a)
-    go false = by (suc (manyAt n f s 0 .good)) (λ i a c. omega arith)
+    starts : (x : Bool) (i : ℕ) → i < n → i ≤ manyAt n f s 0 .good → i * lineEnds f < cond x n (suc (manyAt n f s 0 .good))
+    starts true i a c = rw l (omega arith)
+    starts false i a c = rw l (omega arith)

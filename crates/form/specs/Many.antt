@@ -5,7 +5,7 @@ use Prim.Native.Nat.{ℕ, zero, suc, _+_}
 use lib.ListN.{take, drop}
 use lib.IntN.{ℤ}
 use Rattle.form.specs.Form.{formAt, marks, formText, fits}
-use Rattle.form.specs.declared.lines.Ran.{Ran}
+use Rattle.form.specs.declared.lines.Stood.{Stood}
 
 -- what reading n times a form finds: as for one form, and how many stood there
 pub record Run : Type 0 where
@@ -29,8 +29,8 @@ unfoldable pub rowsText : ℕ → List ℕ → List ℤ → List ℕ
 rowsText zero f vs = []
 rowsText (suc n) f vs = formText f (take (marks f) vs) ++ rowsText n f (drop (marks f) vs)
 
-abbrev pub ranOf : Run → ℕ → Ran
-ranOf r k = record { ok = r .ok; next = r .next; good = k + r .good }
+abbrev pub stoodOf : Run → ℕ → Stood
+stoodOf r k = record { ok = r .ok; next = r .next; good = k + r .good }
 
 -- which values n rows can carry: those at the front, row by row
 unfoldable pub manyFit : ℕ → List ℕ → List ℤ → Bool

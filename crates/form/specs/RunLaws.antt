@@ -9,8 +9,8 @@ use lib.Dec.{eqb}
 use Rattle.form.specs.Form.{formAt, valAt, withVal, byteAt, isMark, failed, marks}
 use Rattle.form.specs.declared.value.Val.{Val}
 use Rattle.form.specs.declared.value.Val.the-variants.{Got, Not}
-use Rattle.form.specs.declared.lines.Ran.{Ran}
-use Rattle.form.specs.Many.{onto, manyAt, ranOf}
+use Rattle.form.specs.declared.lines.Stood.{Stood}
+use Rattle.form.specs.Many.{onto, manyAt, stoodOf}
 
 -- an accepted form has as many values as marks
 pub form-length : (f s : List ℕ) (at : ℕ) → formAt f s at .ok ≡ true → length (formAt f s at .vals) ≡ marks f
@@ -73,5 +73,5 @@ many-length (suc n) f s at e = go (formAt f s at .ok) refl e (many-length n f s 
     go true o e ih = length-append (formAt f s at .vals) (manyAt n f s (formAt f s at .next) .vals) ∙ omega (arith, form-length f s at o, ih e)
     go false o e ih = absurd (false≢true e)
 
-pub ran-good : (n : ℕ) (f s : List ℕ) (at : ℕ) (m : Ran) → m ≡ ranOf (manyAt n f s at) 0 → m .good ≤ n
-ran-good n f s at m e = omega (arith, ap (λ (x : Ran). x .good) e, good-most n f s at)
+pub ran-good : (n : ℕ) (f s : List ℕ) (at : ℕ) (m : Stood) → m ≡ stoodOf (manyAt n f s at) 0 → m .good ≤ n
+ran-good n f s at m e = omega (arith, ap (λ (x : Stood). x .good) e, good-most n f s at)

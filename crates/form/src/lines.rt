@@ -4,14 +4,14 @@ ghost use Prim.Native.Nat.{_+_, _*_, _≤_, _<_};
 ghost use lib.ListN.{length, drop};
 ghost use lib.Seq.{sets};
 ghost use Rattle.form.specs.Form.{marks};
-ghost use Rattle.form.specs.Many.{manyAt, ranOf, rowsText, manyFit};
+ghost use Rattle.form.specs.Many.{manyAt, stoodOf, rowsText, manyFit};
 use crate::line::form_fits;
 use crate::line::form_len;
 use crate::line::put_form;
 use crate::line::read_form;
 
 // Whether a form stood n times, the place after it, and how often it stood.
-pub struct Ran {
+pub struct Stood {
     pub ok: bool,
     pub next: usize,
     pub good: usize,
@@ -26,9 +26,9 @@ pub fn read_many(
     n: usize,
     vals: &mut [i64],
     first: usize,
-) -> Ran
+) -> Stood
     requires { ⌜ (w ≡ marks (now f)) × (first + n * w ≤ length (now vals)) ⌝ }
-    ensures { λ r. ⌜ (r ≡ ranOf (manyAt n (now (f .entry)) (now (s .entry)) from) 0)
+    ensures { λ r. ⌜ (r ≡ stoodOf (manyAt n (now (f .entry)) (now (s .entry)) from) 0)
         × (now (vals .exit) ≡ sets (now (vals .entry)) first (manyAt n (now (f .entry)) (now (s .entry)) from .vals)) ⌝ }
 {
     let mut at = from;
@@ -42,14 +42,14 @@ pub fn read_many(
             j += w;
             k += 1;
         } else {
-            return Ran {
+            return Stood {
                 ok: false,
                 next: 0,
                 good: k,
             };
         }
     }
-    Ran {
+    Stood {
         ok: true,
         next: at,
         good: k,
@@ -57,9 +57,9 @@ pub fn read_many(
 }
 
 // Looks whether the form f, of 8 values at the most, stands n times from `from` on, and keeps no value.
-pub fn pass_many(s: &[u8], from: usize, f: &[u8], n: usize) -> Ran
+pub fn pass_many(s: &[u8], from: usize, f: &[u8], n: usize) -> Stood
     requires { ⌜ marks (now f) ≤ 8 ⌝ }
-    ensures { λ r. ⌜ r ≡ ranOf (manyAt n (now (f .entry)) (now (s .entry)) from) 0 ⌝ }
+    ensures { λ r. ⌜ r ≡ stoodOf (manyAt n (now (f .entry)) (now (s .entry)) from) 0 ⌝ }
 {
     let mut v = [0i64; 8];
     let mut at = from;
@@ -71,14 +71,14 @@ pub fn pass_many(s: &[u8], from: usize, f: &[u8], n: usize) -> Ran
             at = t.next;
             k += 1;
         } else {
-            return Ran {
+            return Stood {
                 ok: false,
                 next: 0,
                 good: k,
             };
         }
     }
-    Ran {
+    Stood {
         ok: true,
         next: at,
         good: k,

@@ -14,7 +14,7 @@ use mir.Val.{SFits}
 use Rattle.form.specs.Signed.{isNeg}
 use Rattle.form.specs.FormLaws.{and-1, and-2}
 use Rattle.text.specs.Printed.{most, amountsPrintable, sheetPrintable}
-use Rattle.text.specs.PrintLaws.{amounts-fit, sheet-fits}
+use Rattle.text.specs.PrintLaws.{small-amounts, small-sums}
 use Rattle.gateway.specs.Shapes.{AllFit, amountsFrom, sheetFrom, signsFrom, zeros, amountsRecharge, sheetRecharge}
 use Rattle.gateway.specs.Calls.{isAnswer}
 
@@ -89,7 +89,7 @@ module _ (l : List ℤ) (ten : length l ≡ 10) (fit : AllFit l) where
   pub sheet-prints : signsFrom 0 sheetRecharge l ≡ true → sheetPrintable (sheetFrom l) ≡ true
   unfolding sheetFrom
   sheet-prints e =
-      sheet-fits (sheetFrom l)
+      small-sums (sheetFrom l)
       (place 9 e 0 (omega arith) refl)
       (place 9 e 1 (omega arith) refl)
       (place 9 e 2 (omega arith) refl)
@@ -103,7 +103,7 @@ module _ (l : List ℤ) (ten : length l ≡ 10) (fit : AllFit l) where
   amounts-print : ((i : ℕ) → i < 10 → eqb i amountsRecharge ≡ false → leb (natAbs (getD l i (pos 0))) most ≡ true) → amountsPrintable (amountsFrom l) ≡ true
   unfolding amountsFrom
   amounts-print h =
-      amounts-fit (amountsFrom l)
+      small-amounts (amountsFrom l)
       (h 0 (omega arith) refl)
       (h 1 (omega arith) refl)
       (h 2 (omega arith) refl)

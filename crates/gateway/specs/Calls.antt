@@ -8,7 +8,8 @@ use lib.IntN.{ℤ}
 use lib.ListN.{length}
 use Rattle.cell.specs.declared.Answer.{Answer}
 use Rattle.cell.specs.declared.Answer.the-variants.{Accepted}
-use Rattle.cell.specs.Refusals.{notAddable, numberOf, amountsOf}
+use Rattle.cell.specs.declared.Refusal.the-variants.{InactiveHead}
+use Rattle.cell.specs.Refusals.{refusalNumber, notAddable, numberOf, amountsOf}
 use Rattle.site.specs.declared.Added.{Added}
 use Rattle.site.specs.Site.{siteAnswer, siteRows, clearNumber, clearRows}
 use Rattle.site.specs.Sheet.{addedOf}
@@ -103,7 +104,7 @@ WritesReading reading buf got = WritesText (wide reading readingWidth && wide go
 
 -- by number and signs a host's number and amounts can be an answer of a step: accepted, and no amount negative but recharge; or refused by one of its checks, with ten zeros
 unfoldable pub isAnswer : ℕ → List ℤ → Bool
-isAnswer number amounts = cond (eqb number 0) (signsFrom 0 amountsRecharge amounts) (leb number 10 && zeros amounts)
+isAnswer number amounts = cond (eqb number 0) (signsFrom 0 amountsRecharge amounts) (leb number (refusalNumber InactiveHead) && zeros amounts)
 
 abbrev pub WritesAnswer : ℕ → ℕ → List ℤ → List ℕ → List ℕ → ℕ → List ℕ → List ℕ → Type 0
 WritesAnswer cell number amounts buf got =

@@ -1,4 +1,4 @@
--- How much the program prints at the most. Assumes nothing.
+-- What the program prints, by what stands in its input, and how much at the most. Assumes nothing.
 use mathlib.Core.Path.{_≡_, refl, _∙_}
 use mathlib.Core.Bool.{Bool, true, false}
 use mathlib.Core.List.{List, _++_, append-assoc}

@@ -1,7 +1,7 @@
 -- The N of `code=12 line=N` is one more than the line ends before line N, for every journal. Assumes nothing.
 use mathlib.Core.Path.{_≡_, refl, sym, ap, _∙_}
 use mathlib.Core.Bool.{Bool, true, false}
-use mathlib.Core.List.{List, [], _++_, append-assoc, append-nil}
+use mathlib.Core.List.{List, _++_, append-assoc, append-nil}
 use Prim.Native.Nat.{ℕ, _+_, _≤_, _<_}
 use native.Mathlib.Omega.{arith}
 use borrow.Author.Tests.{eqb-true, eqb-false}
@@ -47,11 +47,12 @@ pub record MalformedAt (s : List ℕ) (line : ℕ) : Type 0 where
   pub number : line ≡ lineEnds before + 1
   pub lines : Stopped s before rest
 
--- a book ends in the sheet, and all lines are well formed; or it is the number of a card that clearing refuses; or it ends in the number of the malformed line
+-- a book ends in the sheet, and all lines are well formed; or it is the number of a card that clearing refuses; or the number of the card's malformed line, or ends in that of a malformed reading
 pub data Ending (s : List ℕ) : Type 0 where
   in-sheet : bookOf s ≡ linesText (entriesBelow s) ++ sheetText (afterAll noSteps (answersOf (entriesBelow s))) → parse s .line ≡ 0 → s ≡ linesRead s → Ending s
   in-code : (number : ℕ) → bookOf s ≡ codeText number → parse s .line ≡ 0 → clearNumber (parse s .card) (freshRows (parse s .card)) ≡ number → ¬ (number ≡ 0) → Ending s
-  in-line : (es : List Entry) (line : ℕ) → bookOf s ≡ linesText es ++ malformedText line → MalformedAt s line → Ending s
+  in-card-line : (line : ℕ) → bookOf s ≡ malformedText line → MalformedAt s line → Ending s
+  in-line : (line : ℕ) → bookOf s ≡ linesText (entriesBelow s) ++ malformedText line → MalformedAt s line → Ending s
 
 -- ---- with the card read and cleared
 module _ (s : List ℕ) (h : length s ≤ inputLimit) (e : parse s .line ≡ 0) (c : clearNumber (parse s .card) (freshRows (parse s .card)) ≡ 0) where
@@ -79,7 +80,7 @@ module _ (s : List ℕ) (h : length s ≤ inputLimit) (e : parse s .line ≡ 0) 
   some-read : read .wellFormed ≡ false → Ending s
   unfolding readingsText
   some-read w =
-      in-line (entriesBelow s) (card .cells + 2 + length (entriesBelow s)) (book-is ∙ rw w)
+      in-line (card .cells + 2 + length (entriesBelow s)) (book-is ∙ rw w)
       (record {
         before = linesRead s;
         rest = lines .rest;
@@ -98,7 +99,7 @@ ending s h = go (eqb (parse s .line) 0) refl (eqb number 0) refl (readBelow s .w
     go false e b c g w =
         let z = eqb-false (parse s .line) 0 e in
         let m = card-stops s z in
-        in-line [] (parse s .line) (book-malformed s h z) (record { before = m .before; rest = m .rest; parts = m .parts; number = m .number; lines = in-card (m .lines) })
+        in-card-line (parse s .line) (book-malformed s h z) (record { before = m .before; rest = m .rest; parts = m .parts; number = m .number; lines = in-card (m .lines) })
     go true e false c g w =
         let z = eqb-true (parse s .line) 0 e in
         let n = eqb-false number 0 c in

@@ -14,7 +14,7 @@ use Rattle.cell.specs.declared.Reading.{Reading}
 use Rattle.cell.specs.declared.Refusal.{Refusal}
 use Rattle.cell.specs.declared.Refusal.the-variants.{BadCard, BadLengths, BadCell}
 use Rattle.cell.specs.Ranges.{cardOk, soilOk, rowOk, lifeOf, nextOf, fieldsOk}
-use Rattle.cell.specs.Refusals.{refusalNumber, firstFailing, numberOf, amountsOf, isOld, isGap, isUnusable, isInactive}
+use Rattle.cell.specs.Refusals.{refusalNumber, firstFailing, numberOf, nothing, amountsOf, isOld, isGap, isUnusable, isInactive}
 use Rattle.cell.specs.Step.{answerOf, newRow}
 use Rattle.site.specs.Rows.{partAt, putAt}
 
@@ -78,11 +78,12 @@ siteRows card soil rows r =
     (putAt rowWidth (r .cell) (newRow card (partAt soilWidth (r .cell) soil) (partAt rowWidth (r .cell) rows) r) rows)
     rows
 
--- what a step of the site gives, for every input: its number is that of the first check that fails, 0 where none does
+-- what a step of the site gives, for every input: the number of the first check that fails and ten zero amounts; or 0 and the named row's amounts
 pub record SiteGives (card : Card) (soil : List ℤ) (rows : List ℕ) (r : Reading) (answer : Answer) (after : List ℕ) : Type 0 where
   pub answer-is : answer ≡ siteAnswer card soil rows r
   pub number-is : numberOf answer ≡ firstFailing (checksOf card soil rows r)
-  pub amounts-are : amountsOf answer ≡ amountsOf (siteAnswer card soil rows r)
+  pub amounts-are : amountsOf answer
+      ≡ cond (eqb (firstFailing (checksOf card soil rows r)) 0) (amountsOf (answerOf card (partAt soilWidth (r .cell) soil) (partAt rowWidth (r .cell) rows) r)) nothing
   pub rows-are : after ≡ siteRows card soil rows r
 
 -- ---- clearing: knows 1 and the row part of 2 only

@@ -5,7 +5,7 @@ use mathlib.Core.List.{List, [], _∷_, _++_}
 use Prim.Native.Nat.{ℕ, suc, _+_, _*_, _≤_, _<_}
 use native.Mathlib.Nat.{mul-le-mul-left}
 use native.Mathlib.Omega.{arith}
-use borrow.Author.Tests.{ltb-true, eqb-true}
+use borrow.Author.Tests.{ltb-true, eqb-true, ne-eqb}
 use lib.Dec.{eqb}
 use lib.IntN.{ℤ}
 use lib.ListN.{length, getD, take, drop, replicate}
@@ -18,8 +18,8 @@ use Rattle.cell.specs.declared.Refusal.{Refusal}
 use Rattle.cell.specs.declared.Refusal.the-variants.{BadCard, BadLengths, BadCell}
 use Rattle.cell.specs.Ranges.{cardOk, lifeOf, nextOf}
 use Rattle.cell.specs.Step.{answerOf, newRow}
-use Rattle.cell.specs.Refusals.{refusalNumber, firstFailing, numberOf, amountsOf}
-use Rattle.cell.specs.CheckLaws.{row-number, same-order}
+use Rattle.cell.specs.Refusals.{refusalNumber, firstFailing, numberOf, nothing, amountsOf}
+use Rattle.cell.specs.CheckLaws.{row-number, same-order, refusal-in}
 use Rattle.cell.specs.AnswerLaws.{stays, bad-card, length-after}
 use Rattle.site.specs.Rows.{partAt, putAt}
 use Rattle.site.specs.RowsLaws.{put-back, put-same, put-other, put-length, put-outside, room, part-zeros}
@@ -73,10 +73,6 @@ module _ (card : Card) (soil : List ℤ) (rows : List ℕ) (r : Reading) where
       go true p false q c s = rw (← by-checks p q s, p, q)
       go true p true q false s = rw (← by-checks p q s, p, q, s)
       go true p true q true s = rw (← by-checks p q s, p, q, s) (rw p at (row-number card soilPart rowPart r))
-
-  -- what an answer and the rows promise, where they are those of the definitions
-  pub gives : {answer : Answer} {after : List ℕ} → answer ≡ siteAnswer card soil rows r → after ≡ siteRows card soil rows r → SiteGives card soil rows r answer after
-  gives p q = record { answer-is = p; number-is = ap numberOf p ∙ first-failing; amounts-are = ap amountsOf p; rows-are = q }
 
   -- ---- the rows: refused, exactly as they came
   pub rows-stay : (why : Refusal) → siteAnswer card soil rows r ≡ Refused why → siteRows card soil rows r ≡ rows
@@ -146,6 +142,23 @@ module _ (card : Card) (soil : List ℤ) (rows : List ℕ) (r : Reading) where
 
     pub rows-length : length (siteRows card soil rows r) ≡ length rows
     rows-length = rw rows-are (put-length rowWidth (r .cell) (newRow card soilPart rowPart r) rows new-length has-room)
+
+-- ---- what an answer and the rows promise, where they are those of the definitions
+module _ (card : Card) (soil : List ℤ) (rows : List ℕ) (r : Reading) where
+  amounts-by : (x : Answer) → siteAnswer card soil rows r ≡ x
+      → amountsOf x ≡ cond (eqb (numberOf x) 0) (amountsOf (answerOf card (partAt soilWidth (r .cell) soil) (partAt rowWidth (r .cell) rows) r)) nothing
+  amounts-by (Accepted a) e = rw (row-answer card soil rows r a e)
+  amounts-by (Refused why) e = rw (ne-eqb (refusalNumber why) 0 (λ z. omega (arith, refusal-in why .0)))
+
+  pub gives : {answer : Answer} {after : List ℕ} → answer ≡ siteAnswer card soil rows r → after ≡ siteRows card soil rows r → SiteGives card soil rows r answer after
+  gives p q =
+      let n = first-failing card soil rows r in
+      record {
+        answer-is = p;
+        number-is = ap numberOf p ∙ n;
+        amounts-are = ap amountsOf p ∙ (rw n at (amounts-by (siteAnswer card soil rows r) refl));
+        rows-are = q;
+      }
 
 -- ---- clearing, by its two checks
 module _ (card : Card) (rows : List ℕ) where

@@ -13,7 +13,7 @@ use Rattle.form.specs.Form.{Out, formAt, byteAt}
 use Rattle.form.specs.Many.{Run, manyAt}
 use Rattle.form.specs.Words.{wordOf}
 use Rattle.form.specs.Ends.{lineEnds, firstLine, firstLines}
-use Rattle.form.specs.BehindLaws.{SameLines, same-start, form-line, form-same, form-next, many-same, many-next, byte-same, end-next}
+use Rattle.form.specs.BehindLaws.{SameLines, form-line, form-same, form-next, many-same, many-next, byte-same, end-next}
 use Rattle.text.specs.declared.card.Counts.{Counts}
 use Rattle.text.specs.Lines.{readingForm, cardForm, depthForm, soilForm}
 use Rattle.text.specs.Readings.{resultOf, readReading}
@@ -112,14 +112,14 @@ card-same s s' k h g = go (hh .ok) refl (dd .ok) refl
         let m = soil-same (depths-next (hh .delays) s s' (hh .next) k q r) (mm .ok) refl x r in
         rw (← counts-same s s' k g, ← d, ← m)
 
--- reading a card looks at its own lines only, and at none behind a malformed one
-pub card-behind : (s : List ℕ) → parse s ≡ parse (firstLines (cardLines (parse s)) s)
-card-behind s = go (cardLines (parse s)) refl
+-- reading a card looks at its own lines only, and at none behind a malformed one: any text that starts with these lines is read alike
+pub card-behind : (s s' : List ℕ) → firstLines (cardLines (parse s)) s ≡ firstLines (cardLines (parse s)) s' → parse s ≡ parse s'
+card-behind s s' same = go (cardLines (parse s)) refl
   where
     some : (b : Bool) → eqb (parse s .line) 0 ≡ b → 0 < cardLines (parse s)
     some true e = rw e (omega arith)
     some false e = rw e (omega (arith, eqb-false (parse s .line) 0 e))
 
-    go : (n : ℕ) → cardLines (parse s) ≡ n → parse s ≡ parse (firstLines n s)
+    go : (n : ℕ) → cardLines (parse s) ≡ n → parse s ≡ parse s'
     go zero e = absurd (omega (arith, some (eqb (parse s .line) 0) refl))
-    go (suc k) e = card-same s (firstLines (suc k) s) k (omega arith) (same-start (suc k) s)
+    go (suc k) e = card-same s s' k (omega arith) (record { lines = rw e at same; room = omega arith; room' = omega arith })

@@ -14,12 +14,12 @@ use Rattle.cell.specs.Ranges.{countsOk}
 use Rattle.cell.specs.RangeLaws.{counts-in}
 use Rattle.cell.specs.Refusals.{refusalNumber, malformed}
 use Rattle.form.specs.declared.line.Taken.{Taken}
-use Rattle.form.specs.declared.lines.Ran.{Ran}
+use Rattle.form.specs.declared.lines.Stood.{Stood}
 use Rattle.text.specs.declared.card.Counts.{Counts}
 use Rattle.text.specs.declared.card.CardRead.{CardRead}
 use Rattle.form.specs.Put.{sets-all}
 use Rattle.form.specs.Form.{Out, formAt, takenOf, byteAt}
-use Rattle.form.specs.Many.{Run, manyAt, ranOf}
+use Rattle.form.specs.Many.{Run, manyAt, stoodOf}
 use Rattle.form.specs.RunLaws.{form-length, many-length}
 use Rattle.form.specs.Words.{wordOf}
 use Rattle.text.specs.Lines.{cardForm, depthForm, soilForm}
@@ -52,30 +52,30 @@ module _ (s : List ℕ) (t : Taken) (e : t ≡ takenOf (formAt cardForm s 0)) wh
       let k : formAt cardForm s 0 .ok ≡ false = sym (ap (λ (x : Taken). x .ok) e) ∙ o in
       rw k
 
-module _ (n : ℕ) (s : List ℕ) (from : ℕ) (t : Ran) (z v : List ℤ) (e : t ≡ ranOf (manyAt n depthForm s from) 0) (f : v ≡ sets z 0 (manyAt n depthForm s from .vals)) where
+module _ (n : ℕ) (s : List ℕ) (from : ℕ) (t : Stood) (z v : List ℤ) (e : t ≡ stoodOf (manyAt n depthForm s from) 0) (f : v ≡ sets z 0 (manyAt n depthForm s from .vals)) where
   abbrev Ends : Taken → Type 0
   Ends r = (r ≡ takenOf (depthsAt n s from)) × (v ≡ sets z 0 (depthsAt n s from .vals))
 
   pub ends-good : t .ok ≡ true → byteAt s (t .next) ≡ 10 → Ends (record { ok = true; next = t .next + 1 })
   unfolding depthsAt
   ends-good o b =
-      let k : manyAt n depthForm s from .ok ≡ true = sym (ap (λ (x : Ran). x .ok) e) ∙ o in
-      let x : t .next ≡ manyAt n depthForm s from .next = ap (λ (x : Ran). x .next) e in
+      let k : manyAt n depthForm s from .ok ≡ true = sym (ap (λ (x : Stood). x .ok) e) ∙ o in
+      let x : t .next ≡ manyAt n depthForm s from .next = ap (λ (x : Stood). x .next) e in
       let y : byteAt s (manyAt n depthForm s from .next) ≡ 10 = rw x at b in
       (rw (k, eq-eqb _ _ y, add-one (t .next), x), rw (k, eq-eqb _ _ y) f)
 
   pub ends-other : t .ok ≡ true → (byteAt s (t .next) ≡ 10 → ⊥) → Ends (record { ok = false; next = 0 })
   unfolding depthsAt
   ends-other o b =
-      let k : manyAt n depthForm s from .ok ≡ true = sym (ap (λ (x : Ran). x .ok) e) ∙ o in
-      let x : t .next ≡ manyAt n depthForm s from .next = ap (λ (x : Ran). x .next) e in
+      let k : manyAt n depthForm s from .ok ≡ true = sym (ap (λ (x : Stood). x .ok) e) ∙ o in
+      let x : t .next ≡ manyAt n depthForm s from .next = ap (λ (x : Stood). x .next) e in
       let y : byteAt s (manyAt n depthForm s from .next) ≡ 10 → ⊥ = rw x at b in
       (rw (k, ne-eqb _ _ y), rw (k, ne-eqb _ _ y) f)
 
   pub ends-bad : t .ok ≡ false → Ends (record { ok = false; next = 0 })
   unfolding depthsAt
   ends-bad o =
-      let k : manyAt n depthForm s from .ok ≡ false = sym (ap (λ (x : Ran). x .ok) e) ∙ o in
+      let k : manyAt n depthForm s from .ok ≡ false = sym (ap (λ (x : Stood). x .ok) e) ∙ o in
       (rw k, rw k f)
 
 pub head-range : (s : List ℕ) (h : Counts) → h ≡ countsOf s → (h .delays ≤ 30) × (h .cells ≤ 256)
@@ -132,21 +132,21 @@ module _ (s : List ℕ) (b : List ℤ) (h : Counts) (eh : h ≡ countsOf s) (r :
         p : parse s ≡ badLine 1
         p = unfold parse in rw (k1, k)
 
-    module _ (m : Ran) (em : m ≡ ranOf (manyAt (h .cells) soilForm s (t .next)) 0) (o2 : t .ok ≡ true) where
+    module _ (m : Stood) (em : m ≡ stoodOf (manyAt (h .cells) soilForm s (t .next)) 0) (o2 : t .ok ≡ true) where
       k2 : DD s .ok ≡ true
       k2 = sym (ap (λ (x : Taken). x .ok) t′) ∙ o2
 
-      m′ : m ≡ ranOf (MM s) 0
+      m′ : m ≡ stoodOf (MM s) 0
       m′ = rw (eh, t′) at em
 
       pub end-soil : m .ok ≡ false → r ≡ refusedCard malformed (m .good + 2) → CardEnd s b r b
       end-soil o e = end-bad s b (MM s .good + 2) r p (omega arith) (e ∙ ap (λ (n : ℕ). refusedCard malformed (n + 2)) g)
         where
           k : MM s .ok ≡ false
-          k = sym (ap (λ (x : Ran). x .ok) m′) ∙ o
+          k = sym (ap (λ (x : Stood). x .ok) m′) ∙ o
 
           g : m .good ≡ MM s .good
-          g = ap (λ (x : Ran). x .good) m′ ∙ omega arith
+          g = ap (λ (x : Stood). x .good) m′ ∙ omega arith
 
           p : parse s ≡ badLine (MM s .good + 2)
           p = unfold parse in rw (k1, k2, k)
@@ -154,7 +154,7 @@ module _ (s : List ℕ) (b : List ℤ) (h : Counts) (eh : h ≡ countsOf s) (r :
       fine : m .ok ≡ true → parse s ≡ record { line = 0; next = m .next; card = cardWith h (DD s .vals); soil = MM s .vals }
       unfolding parse
       fine o =
-          let k : MM s .ok ≡ true = sym (ap (λ (x : Ran). x .ok) m′) ∙ o in
+          let k : MM s .ok ≡ true = sym (ap (λ (x : Stood). x .ok) m′) ∙ o in
           rw (k1, k2, k, eh, m′)
 
       pub end-short : m .ok ≡ true → length b < h .cells * 5 → r ≡ refusedCard (refusalNumber BadLengths) 0 → CardEnd s b r b
@@ -164,7 +164,7 @@ module _ (s : List ℕ) (b : List ℤ) (h : Counts) (eh : h ≡ countsOf s) (r :
           → ds ≡ map wordOf v → l ≡ sets b 0 (manyAt (h .cells) soilForm s (t .next) .vals)
           → CardEnd s b (record { number = 0; taken = m .next; line = 0; card = record { cells = h .cells; delays = h .delays; depths = ds } }) l
       end-good ds v l o q ev ed el =
-          let k : MM s .ok ≡ true = sym (ap (λ (x : Ran). x .ok) m′) ∙ o in
+          let k : MM s .ok ≡ true = sym (ap (λ (x : Stood). x .ok) m′) ∙ o in
           let el′ : l ≡ sets b 0 (MM s .vals) = rw (eh, t′) at el in
           let hc : h .cells ≡ countsOf s .cells = ap (λ (x : Counts). x .cells) eh in
           let ln : length (MM s .vals) ≡ h .cells * 5 = many-length (countsOf s .cells) soilForm s (DD s .next) k ∙ omega arith in

@@ -29,7 +29,7 @@ use Rattle.form.specs.Words.{wordOf}
 use Rattle.text.specs.Lines.{cardForm, depthForm, soilForm}
 use Rattle.text.specs.Cards.{rangeCounts, countsOf, depthsAt, parse, cardResult, soilResult, cardText, cardParts, hasText, cardChecks}
 use Rattle.text.specs.Written.{fitsIn, Writes}
-use Rattle.text.specs.WrittenLaws.{no-room, room, writes-none, writes-all, writes-text}
+use Rattle.text.specs.WrittenLaws.{no-room, has-room, writes-none, writes-all, writes-text}
 use Rattle.form.specs.Put.{sets-step}
 
 map-two : (vs : List ℤ) → map pos (map wordOf vs) ≡ map unword vs
@@ -151,7 +151,7 @@ module _ (s : List ℕ) where
 
 -- what is read as a card is the card's one text
 pub card-one : (s : List ℕ) → parse s .line ≡ 0 → take (parse s .next) s ≡ cardText (parse s .card) (parse s .soil)
-unfolding parse cardText
+unfolding parse cardText cardParts
 card-one s e =
     let g = all-good s e in
     let h = countsIn s in
@@ -242,7 +242,7 @@ module _ (c : Card) (soil : List ℤ) (q : List ℕ) (ok : CardFits c soil) wher
 -- the text of a card is read back, whatever bytes stand behind it
 pub card-back : (c : Card) (soil : List ℤ) (q : List ℕ) → CardFits c soil
     → parse (cardText c soil ++ q) ≡ record { line = 0; next = length (cardText c soil); card = c; soil = soil }
-unfolding parse cardText
+unfolding parse cardText cardParts
 card-back c soil q ok =
     rw (read-head c soil q ok, read-depths c soil q ok, read-soil c soil q ok, ok .unused)
     (ap (λ (n : ℕ). record { line = 0; next = n; card = c; soil = soil }) (whole-length c soil q ok))
@@ -318,7 +318,7 @@ module _ (c : Card) (soil : List ℤ) (b : List ℕ) where
 
         pub wrote-all : (l : List ℕ) → n ≤ length b → l ≡ sets b 0 (cardParts (pos (c .cells) ∷ pos (c .delays) ∷ []) (c .delays) (map pos (c .depths)) (c .cells) soil)
             → Gives (record { number = 0; len = n }) l
-        wrote-all l k p = writes-all _ _ _ l n (rw (g, eq-eqb _ _ h, f, room (cardText c soil) b n e′ k)) e′ k (p ∙ ap (sets b 0) (parts-text c soil d))
+        wrote-all l k p = writes-all _ _ _ l n (rw (g, eq-eqb _ _ h, f, has-room (cardText c soil) b n e′ k)) e′ k (p ∙ ap (sets b 0) (parts-text c soil d))
 
 -- ---- what `card::write` accepts is read back
 zeros-zero : (n : ℕ) → noneOf (map wordOf (replicate n (pos 0))) ≡ true

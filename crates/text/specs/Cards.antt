@@ -73,7 +73,7 @@ parse s =
     let d = depthsAt (h .delays) s (h .next) in
     parsedOf h d (manyAt (h .cells) soilForm s (d .next))
 
--- reading a card, with room for b's soil numbers
+-- reading a card into a slice of so many soil numbers
 abbrev pub cardResult : Parsed → ℕ → CardRead
 cardResult p room =
     cond (eqb (p .line) 0)
@@ -83,14 +83,13 @@ cardResult p room =
 abbrev pub soilResult : Parsed → List ℤ → List ℤ
 soilResult p b = cond (eqb (p .line) 0) (cond (ltb (length b) (p .card .cells * 5)) b (p .soil ++ drop (p .card .cells * 5) b)) b
 
--- the one text of a card with its soil numbers
+-- the text of a card in its parts: the counts, m depths, the line's end and n cells' lines
 unfoldable pub cardParts : List ℤ → ℕ → List ℤ → ℕ → List ℤ → List ℕ
 cardParts h m ds n soil = formText cardForm h ++ (rowsText m depthForm ds ++ (10 ∷ rowsText n soilForm soil))
 
+-- the one text of a card with its soil numbers
 unfoldable pub cardText : Card → List ℤ → List ℕ
-cardText c soil =
-    formText cardForm (pos (c .cells) ∷ pos (c .delays) ∷ [])
-    ++ (rowsText (c .delays) depthForm (map pos (take (c .delays) (c .depths))) ++ (10 ∷ rowsText (c .cells) soilForm soil))
+cardText c soil = cardParts (pos (c .cells) ∷ pos (c .delays) ∷ []) (c .delays) (map pos (take (c .delays) (c .depths))) (c .cells) soil
 
 -- ---- writing
 -- a card that some text gives

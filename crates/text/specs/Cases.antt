@@ -17,7 +17,7 @@ use Rattle.cell.specs.declared.Refusal.the-variants.{Old}
 use Rattle.cell.specs.Ranges.{countsOk}
 use Rattle.cell.specs.Water.{water, net}
 use Rattle.text.specs.Readings.{readReading}
-use Rattle.text.specs.Cards.{parse, countsOf, rangeCounts, depthsAt, cardText}
+use Rattle.text.specs.Cards.{parse, countsOf, rangeCounts, depthsAt, cardText, cardParts}
 use Rattle.text.specs.Printed.{answerText, lineText, sheetText}
 
 -- the card
@@ -31,7 +31,7 @@ pub card-line : List ℕ
 card-line = bytes "cells=1 delays=2 depth=1000000 depth=2000000\ntop=10000000 etdepth=1500000 vadpor=200 leak=100000 cn=80\n"
 
 pub card-text : cardText card soil ≡ card-line
-unfolding card soil card-line cardText formText rowsText valText dec decF
+unfolding card soil card-line cardText cardParts formText rowsText valText dec decF
 card-text = refl
 
 pub card-read : (parse card-line .line ≡ 0) × (parse card-line .card ≡ card) × (parse card-line .soil ≡ soil)
@@ -39,12 +39,12 @@ unfolding card soil card-line parse countsOf rangeCounts countsOk depthsAt manyA
 card-read = (refl, refl, refl)
 
 -- the first reading
-pub reading-line : List ℕ
-reading-line = bytes "cell=0 life=0 count=0 rain=50800 irrig=0 septic=1000 etmin=2000 pet=5000 amc=2 head=410c0000\n"
+pub first-reading : List ℕ
+first-reading = bytes "cell=0 life=0 count=0 rain=50800 irrig=0 septic=1000 etmin=2000 pet=5000 amc=2 head=410c0000\n"
 
-pub reading-read : readReading reading-line .reading
+pub reading-read : readReading first-reading .reading
     ≡ record { cell = 0; life = 0; count = 0; rain = 50800; irrig = 0; septic = 1000; etmin = 2000; pet = 5000; amc = 2; head = carriedOf 0x410c0000 .value; nan = carriedOf 0x410c0000 .nan }
-unfolding reading-line readReading formAt valAt byteAt numAt numStart numGo hexAt hexGo
+unfolding first-reading readReading formAt valAt byteAt numAt numStart numGo hexAt hexGo
 reading-read = refl
 
 -- a leading zero, a minus before 0, and a number of 33 bits are malformed; a NaN's pattern is not

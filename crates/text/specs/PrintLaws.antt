@@ -19,7 +19,7 @@ fits : (n m : ℕ) → n ≤ m → m ≤ most → leb n most ≡ true
 fits n m h k = le-leb n most (omega arith)
 
 -- what can be printed, number by number
-pub amounts-fit : (a : Amounts)
+pub small-amounts : (a : Amounts)
     → leb (a .inflow .0) most ≡ true
     → leb (a .runoff .0) most ≡ true
     → leb (a .etvad .0) most ≡ true
@@ -31,9 +31,9 @@ pub amounts-fit : (a : Amounts)
     → leb (a .left .0) most ≡ true
     → amountsPrintable a ≡ true
 unfolding amountsPrintable
-amounts-fit a i r v s t d l w f = rw (i, r, v, s, t, d, l, w, f)
+small-amounts a i r v s t d l w f = rw (i, r, v, s, t, d, l, w, f)
 
-pub sheet-fits : (s : Sheet)
+pub small-sums : (s : Sheet)
     → leb (s .steps) most ≡ true
     → leb (s .inflow .0) most ≡ true
     → leb (s .runoff .0) most ≡ true
@@ -45,12 +45,12 @@ pub sheet-fits : (s : Sheet)
     → leb (s .stored .0) most ≡ true
     → sheetPrintable s ≡ true
 unfolding sheetPrintable
-sheet-fits s n i r v x t d l w = rw (n, i, r, v, x, t, d, l, w)
+small-sums s n i r v x t d l w = rw (n, i, r, v, x, t, d, l, w)
 
 pub amounts-printable : (a : Amounts) → AmountsWithin a → amountsPrintable a ≡ true
 amounts-printable a h =
     let q : 30000000000 ≤ most = omega arith in
-    amounts-fit a
+    small-amounts a
     (fits _ _ (h .inflow) q)
     (fits _ _ (h .runoff) q)
     (fits _ _ (h .etvad) q)
@@ -65,7 +65,7 @@ pub sheet-printable : (s : Sheet) → SheetIn s → sheetPrintable s ≡ true
 sheet-printable s h =
     let k = h .sums in
     let q : 30000000000 * s .steps ≤ most = omega (arith, h .steps) in
-    sheet-fits s
+    small-sums s
     (fits _ _ (h .steps) (omega arith))
     (fits _ _ (k .inflow) q)
     (fits _ _ (k .runoff) q)

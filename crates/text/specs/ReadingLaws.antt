@@ -31,11 +31,11 @@ use Rattle.text.specs.WrittenLaws.{writes-text}
 one-line : (s : List ℕ) → formAt readingForm s 0 .ok ≡ true → FormRead readingForm s 0 (formAt readingForm s 0)
 one-line s e = form-one readingForm s 0 refl (omega arith) e
 
-pub accepted : (s : List ℕ) (t : Taken) (z v : List ℤ) (r : Reading) → length z ≡ 10 → t ≡ takenOf (formAt readingForm s 0)
+pub read-good : (s : List ℕ) (t : Taken) (z v : List ℤ) (r : Reading) → length z ≡ 10 → t ≡ takenOf (formAt readingForm s 0)
     → v ≡ sets z 0 (formAt readingForm s 0 .vals) → t .ok ≡ true → r ≡ fieldsOf v
     → _≡_ {A = ReadingRead} (record { number = 0; taken = t .next; line = 0; reading = r }) (readReading s)
 unfolding readReading
-accepted s t z v r l e f o g =
+read-good s t z v r l e f o g =
     let k : formAt readingForm s 0 .ok ≡ true = sym (ap (λ (x : Taken). x .ok) e) ∙ o in
     let n : length (formAt readingForm s 0 .vals) ≡ 10 = form-length readingForm s 0 k in
     rw (k, e, g, f, sets-all z (formAt readingForm s 0 .vals) (n ∙ sym l))

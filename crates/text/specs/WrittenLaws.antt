@@ -16,8 +16,8 @@ use Rattle.text.specs.Written.{fitsIn, buffer, Writes}
 pub no-room : (t b : List ℕ) (n : ℕ) → n ≡ length t → length b < n → fitsIn t b ≡ false
 no-room t b n e h = lt-leb (length t) (length b) (omega arith)
 
-pub room : (t b : List ℕ) (n : ℕ) → n ≡ length t → n ≤ length b → fitsIn t b ≡ true
-room t b n e h = le-leb (length t) (length b) (omega arith)
+pub has-room : (t b : List ℕ) (n : ℕ) → n ≡ length t → n ≤ length b → fitsIn t b ≡ true
+has-room t b n e h = le-leb (length t) (length b) (omega arith)
 
 module _ (checks : List (ℕ × Bool)) (t b : List ℕ) where
   -- on refusal

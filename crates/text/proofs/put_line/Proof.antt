@@ -1,5 +1,5 @@
 -- `text::put_line` meets its contract. Assumes nothing.
-use Rattle.text.specs.WrittenLaws.{no-room, room, writes-none, writes-all}
+use Rattle.text.specs.WrittenLaws.{no-room, has-room, writes-none, writes-all}
 use Rattle.cell.specs.Refusals.{malformed}
 use native.Mathlib.Omega.{arith}
 use Rattle.form.specs.Form.{formText}
@@ -26,7 +26,7 @@ returns-2 c =
     let a = c .before .before .before .before .before .before .before .before .args in
     let e = c .before .before .before .before .before .form-len .ensures .0 in
     let l = c .before .before .before .before .if1 .left in
-    writes-all _ _ _ (c .before .before .put-form .last .1 .1 .1 .0) _ (rw (room (formText (a .f .now) (a .v .now)) (a .buf .now) _ e l)) e l (c .before .before .put-form .ensures .1)
+    writes-all _ _ _ (c .before .before .put-form .last .1 .1 .1 .0) _ (rw (has-room (formText (a .f .now) (a .v .now)) (a .buf .now) _ e l)) e l (c .before .before .put-form .ensures .1)
 
 pub put-line-spec : {M : Type 1} → statement M
 put-line-spec =

@@ -3,7 +3,7 @@ use mathlib.Core.Path.{refl}
 use borrow.Author.Needs.{needs}
 use Rattle.text.proofs.reading.read.Statement.{statement}
 use Rattle.text.proofs.reading.read.Tie as tie
-use Rattle.text.specs.ReadingLaws.{accepted, refused}
+use Rattle.text.specs.ReadingLaws.{read-good, refused}
 
 slice-aggregate-read-line : tie.Need-slice-aggregate-read-line
 slice-aggregate-read-line c = search needs
@@ -18,7 +18,7 @@ to-reading-requires : tie.Need-to-reading-requires
 to-reading-requires c κs = search needs
 
 returns : tie.Need-returns
-returns c = accepted _ _ _ _ _ refl (c .before .before .before .before .read-line .ensures .0) (c .before .before .before .before .read-line .ensures .1) (c .before .before .if1 .taken) (c .to-reading .ensures)
+returns c = read-good _ _ _ _ _ refl (c .before .before .before .before .read-line .ensures .0) (c .before .before .before .before .read-line .ensures .1) (c .before .before .if1 .taken) (c .to-reading .ensures)
 
 no-reading-requires : tie.Need-no-reading-requires
 no-reading-requires c κs = search needs
