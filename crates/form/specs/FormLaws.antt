@@ -392,13 +392,14 @@ small-oks (c ∷ f) vs p o = go (eqb c 36) refl (isMark c) refl (small-oks f)
     go false q true m ih = rw m (and-i (okVal c (headZ vs)) (fits f (tailZ vs)) (small-ok c (headZ vs) q (small-head vs o)) (ih (tailZ vs) (rw q at p) (small-tail vs o)))
     go false q false m ih = rw m (ih vs (rw q at p) o)
 
--- values behind those of the marks are not looked at
-pub fits-take : (f : List ℕ) (vs : List ℤ) → fits f (take (marks f) vs) ≡ fits f vs
-unfolding fits
-fits-take [] vs = refl
-fits-take (c ∷ f) vs = go (isMark c) refl vs (fits-take f)
+-- neither the test of a form's values nor its text looks at values behind those of its marks
+pub front-only : (f : List ℕ) (vs : List ℤ) → (fits f (take (marks f) vs) ≡ fits f vs) × (formText f (take (marks f) vs) ≡ formText f vs)
+unfolding fits formText
+front-only [] vs = (refl, refl)
+front-only (c ∷ f) vs = go (isMark c) refl vs (front-only f)
   where
-    go : (b : Bool) → isMark c ≡ b → (vs : List ℤ) → ((vs : List ℤ) → fits f (take (marks f) vs) ≡ fits f vs) → fits (c ∷ f) (take (marks (c ∷ f)) vs) ≡ fits (c ∷ f) vs
-    go true m [] ih = rw m
-    go true m (z ∷ zs) ih = rw (m, ih zs)
-    go false m vs ih = rw (m, ih vs)
+    go : (b : Bool) → isMark c ≡ b → (vs : List ℤ) → ((vs : List ℤ) → (fits f (take (marks f) vs) ≡ fits f vs) × (formText f (take (marks f) vs) ≡ formText f vs))
+        → (fits (c ∷ f) (take (marks (c ∷ f)) vs) ≡ fits (c ∷ f) vs) × (formText (c ∷ f) (take (marks (c ∷ f)) vs) ≡ formText (c ∷ f) vs)
+    go true m [] ih = (rw m, rw m)
+    go true m (z ∷ zs) ih = (rw (m, ih zs .0), rw (m, ih zs .1))
+    go false m vs ih = (rw (m, ih vs .0), rw (m, ih vs .1))

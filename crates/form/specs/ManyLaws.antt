@@ -8,9 +8,9 @@ use native.Mathlib.Omega.{arith}
 use lib.ListN.{length, take, drop, length-append, length-drop, take-append-drop}
 use lib.Seq.{length-take-le, take-at, drop-at, drop-drop, take-append-le, drop-append-le}
 use lib.IntN.{ℤ}
-use Rattle.form.specs.Form.{Out, formAt, formText, marks, isMark, fits}
+use Rattle.form.specs.Form.{Out, formAt, formText, marks, fits}
 use Rattle.form.specs.DecLaws.{stops}
-use Rattle.form.specs.FormLaws.{form-one, form-back, fits-take, ok-words, plain, unword, smallZ, allSmall, small-oks, apart, apart-stops, parted, all-bytes, and-i, and-1, and-2}
+use Rattle.form.specs.FormLaws.{form-one, form-back, front-only, ok-words, plain, unword, smallZ, allSmall, small-oks, apart, apart-stops, parted, all-bytes, and-i, and-1, and-2}
 use Rattle.form.specs.Many.{Run, onto, manyAt, rowsText, manyFit}
 use Rattle.form.specs.RunLaws.{form-length}
 
@@ -44,7 +44,7 @@ many-one (suc n) f s at b l e = go (formAt f s at .ok) refl e (many-one n f s (f
               (r .text ∙ ap (λ (x : List ℕ). x ++ rowsText n f (m .vals)) (q .text) ∙ append-assoc (take at s) (formText f (o .vals)) (rowsText n f (m .vals)));
           low = omega (arith, q .low, r .low);
           room = r .room;
-          fits = rw (← fits-take f (o .vals ++ m .vals), take-at (o .vals) (m .vals) (marks f) w, drop-at (o .vals) (m .vals) (marks f) w) (and-i (fits f (o .vals)) (manyFit n f (m .vals)) (q .fits) (r .fits));
+          fits = rw (← (front-only f (o .vals ++ m .vals) .0), take-at (o .vals) (m .vals) (marks f) w, drop-at (o .vals) (m .vals) (marks f) w) (and-i (fits f (o .vals)) (manyFit n f (m .vals)) (q .fits) (r .fits));
         }
     go false k e ih = absurd (false≢true e)
 
@@ -69,7 +69,7 @@ many-back f q h g (suc n) vs p l e =
     let w : ℕ = marks f in
     let a : List ℤ = take w vs in
     let b : List ℤ = drop w vs in
-    let ea : fits f a ≡ true = fits-take f vs ∙ and-1 (fits f vs) (manyFit n f b) e in
+    let ea : fits f a ≡ true = front-only f vs .0 ∙ and-1 (fits f vs) (manyFit n f b) e in
     let eb : manyFit n f b ≡ true = and-2 (fits f vs) (manyFit n f b) e in
     let la : length a ≡ marks f = length-take-le (marks f) vs (omega arith) in
     let lb : length b ≡ n * marks f = length-drop (marks f) vs ∙ omega arith in
@@ -99,7 +99,7 @@ rows-words (suc n) f vs p l o =
     let b : List ℤ = drop (marks f) vs in
     let la : length a ≡ marks f = length-take-le (marks f) vs (omega arith) in
     let lb : length b ≡ n * marks f = length-drop (marks f) vs ∙ omega arith in
-    let x : map unword a ≡ a = ok-words f a p la (fits-take f vs ∙ and-1 (fits f vs) (manyFit n f b) o) in
+    let x : map unword a ≡ a = ok-words f a p la (front-only f vs .0 ∙ and-1 (fits f vs) (manyFit n f b) o) in
     let y : map unword b ≡ b = rows-words n f b p lb (and-2 (fits f vs) (manyFit n f b) o) in
     let e : a ++ b ≡ vs = take-append-drop (marks f) vs in
     ap (map unword) (sym e) ∙ map-append unword a b ∙ rw (x, y) e
@@ -119,17 +119,6 @@ rows-small (suc n) f vs p o =
 
 -- ---- writing rows
 
--- a form's text has only as many values as marks
-pub text-take : (f : List ℕ) (vs : List ℤ) → formText f (take (marks f) vs) ≡ formText f vs
-unfolding formText
-text-take [] vs = refl
-text-take (c ∷ f) vs = go (isMark c) refl vs (text-take f)
-  where
-    go : (b : Bool) → isMark c ≡ b → (vs : List ℤ) → ((vs : List ℤ) → formText f (take (marks f) vs) ≡ formText f vs) → formText (c ∷ f) (take (marks (c ∷ f)) vs) ≡ formText (c ∷ f) vs
-    go true m [] ih = rw m
-    go true m (z ∷ zs) ih = rw (m, ih zs)
-    go false m vs ih = rw (m, ih vs)
-
 pub rows-end : (n : ℕ) (f : List ℕ) (vs : List ℤ) → n ≡ 0 → rowsText n f vs ≡ []
 unfolding rowsText
 rows-end n f vs e = rw e
@@ -139,7 +128,7 @@ pub rows-more : (n k j w : ℕ) (f : List ℕ) (vs : List ℤ) → k < n → w �
 unfolding rowsText
 rows-more n k j w f vs h q =
     let e : n - k ≡ suc (n - (k + 1)) = omega arith in
-    rw (e, text-take f (drop j vs), q, drop-drop (marks f) j vs)
+    rw (e, front-only f (drop j vs) .1, q, drop-drop (marks f) j vs)
 
 -- rows use no more values than they have
 pub rows-front : (n : ℕ) (f : List ℕ) (a b : List ℤ) → length a ≡ n * marks f → rowsText n f (a ++ b) ≡ rowsText n f a

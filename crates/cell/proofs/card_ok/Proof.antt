@@ -2,8 +2,8 @@
 use Rattle.cell.specs.Ranges.{countsOk, cardOk}
 use Rattle.cell.specs.RangeLaws.{many-delays}
 use lib.Dec.{leb}
-use borrow.Author.Tests.{le-leb, lt-leb}
-use mathlib.Core.Bool.{_&&_, and-true, and-false}
+use borrow.Author.Tests.{le-leb}
+use mathlib.Core.Bool.{_&&_, and-true}
 use mathlib.Core.Path.{sym}
 use borrow.Author.Needs.{needs}
 use Rattle.cell.proofs.card_ok.Statement.{statement}

@@ -1,6 +1,6 @@
 -- `cell::ranges::depths_ok` meets its contract. Assumes nothing.
 use Rattle.cell.proofs.Loops.{rest-is}
-use Rattle.cell.specs.Ranges.{depthsOk, risingFrom, noneOf}
+use Rattle.cell.specs.Ranges.{depthsOk}
 use lib.Seq.{length-take-le}
 use lib.ListN.{length}
 use borrow.Author.Tests.{not-true, not-false}
