@@ -11,10 +11,14 @@ pub const BRANCHES: &[&str] = &[
     "1 shift, no delays",
     "1 shift, nothing released",
     "1 shift, water released",
-    "2 curve number, amc 1",
-    "2 curve number, amc 2",
-    "2 curve number, amc 3",
-    "2 curve number, raised to 1",
+    "2 curve number, normal",
+    "2 curve number, dry at a listed number",
+    "2 curve number, dry between two",
+    "2 curve number, dry above 95",
+    "2 curve number, dry raised to 1",
+    "2 curve number, wet at a listed number",
+    "2 curve number, wet between two",
+    "2 curve number, wet above 95",
     "3 storm runoff, X below 0",
     "3 storm runoff, X = 0",
     "3 storm runoff, X above 0",
@@ -129,9 +133,6 @@ pub fn accepted(met: &Met, tally: &mut Tally) {
     for name in near_a_depth(met, d).into_iter().chain(drain(met, d)).chain(deposit(met, k)) {
         tally.meet("branches", name);
     }
-    if curve_number(met.soil[4], met.reading.amc) == 1 && met.soil[4] == 1 && met.reading.amc == 1 {
-        tally.meet("branches", "2 curve number, raised to 1");
-    }
     if met.reading.septic > 0 && k > 0 {
         tally.meet("branches", "11 recharge, septic and a delay");
     }
@@ -146,10 +147,15 @@ fn shift(met: &Met) -> &'static str {
 }
 
 fn curve(met: &Met) -> &'static str {
-    match met.reading.amc {
-        1 => "2 curve number, amc 1",
-        2 => "2 curve number, amc 2",
-        _ => "2 curve number, amc 3",
+    match (met.reading.amc, met.soil[4]) {
+        (2, _) => "2 curve number, normal",
+        (1, 1) => "2 curve number, dry raised to 1",
+        (1, cn) if cn % 5 == 0 => "2 curve number, dry at a listed number",
+        (1, 96..) => "2 curve number, dry above 95",
+        (1, _) => "2 curve number, dry between two",
+        (_, cn) if cn % 5 == 0 => "2 curve number, wet at a listed number",
+        (_, 96..) => "2 curve number, wet above 95",
+        _ => "2 curve number, wet between two",
     }
 }
 

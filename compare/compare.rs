@@ -23,6 +23,7 @@ use tally::Tally;
 /// All that must be met, by heading.
 const MUST: &[(&str, &[&str])] = &[
     ("branches", branches::BRANCHES),
+    ("every curve number", steps::CURVES),
     ("refused for", branches::REFUSALS),
     ("heads met by the head's check", heads::CLASSES),
     ("sheets", sheets::REFUSALS),
@@ -59,9 +60,12 @@ fn dice_of(seed: u64, round: u64) -> Dice {
     Dice::new(stirred.roll().wrapping_add(round.wrapping_mul(0x9fb2_1c65_1e98_df25)))
 }
 
-/// One round: a run of days, wild steps, clearings, sheets, texts and journals.
+/// One round: a run of days, wild steps, clearings, sheets, texts and journals; round 0 begins with every curve number.
 fn round(asked: &Asked, round: u64, tally: &mut Tally) -> Result<(), String> {
     let dice = &mut dice_of(asked.seed, round);
+    if round == 0 {
+        steps::curves(tally)?;
+    }
     let days = 200 + dice.below(1000);
     steps::run(dice, tally, days)?;
     steps::wild_steps(dice, tally, 100)?;

@@ -6,10 +6,12 @@ use crate::numbers::{amounts_numbers, card_numbers, card_of, reading_numbers, re
 use crate::tally::Tally;
 use crate::waterbook::{AMOUNTS, CARD, NOT_THE_COUNT, READING, ROW, SOIL, raw};
 use crate::{heads, sheets, wild};
+use second::head::DRY;
 use second::made::dice::Dice;
 use second::made::readings::next_reading;
 use second::made::site::Site;
 use second::made::wet::{wet_reading, wet_site};
+use second::numbers::{Card, MOST, Reading};
 
 /// What a step is given, in numbers; the slices may have any length.
 #[derive(Clone, Debug)]
@@ -117,6 +119,44 @@ fn given_by(site: &Site) -> Given {
 fn take(given: &mut Given, slices: &mut Slices, reading: &[u32]) {
     given.reading.copy_from_slice(reading);
     slices.reading.slice().copy_from_slice(reading);
+}
+
+/// What every curve number in turn must be met for.
+pub const CURVES: &[&str] = &[
+    "dry, seen in the runoff",
+    "dry, below 5 and so without runoff",
+    "normal, seen in the runoff",
+    "normal, below 5 and so without runoff",
+    "wet, seen in the runoff",
+    "wet, below 5 and so without runoff",
+];
+
+/// A site with a cell for every curve number, and no delays.
+fn site_of_curves() -> Site {
+    let card = Card { cells: 100, ..Card::ZEROS };
+    let soil = (1..=100).flat_map(|cn| [0, 1, 1, 0, cn]).collect();
+    Site { card, soil, rows: vec![0; 100 * ROW], usual: Vec::new() }
+}
+
+/// Every curve number on dry, normal and wet ground: with the most rain and a dry head the runoff is the storm's.
+pub fn curves(tally: &mut Tally) -> Result<(), String> {
+    let mut given = given_by(&site_of_curves());
+    let mut slices = Slices::lend(&given);
+    for amc in 1..=3 {
+        for cell in 0..100 {
+            let (count, cn) = (amc - 1, cell + 1);
+            let reading = Reading { cell, count, rain: MOST, amc, head: DRY, ..Reading::default() };
+            take(&mut given, &mut slices, &reading_numbers(&reading));
+            let at = |what| format!("step, most rain at cn {cn}, amc {amc}\n{what}");
+            let number = both(&mut given, &mut slices, tally).map_err(at)?;
+            if number != 0 {
+                return Err(at(format!("refused with {number}")));
+            }
+            let unseen = usize::from(given.amounts[1] == 0);
+            tally.meet("every curve number", CURVES[2 * count as usize + unseen]);
+        }
+    }
+    Ok(())
 }
 
 /// Many days of a site, each answer added to a sheet on both sides.

@@ -17,13 +17,27 @@ pub fn shift(slots: &mut Slots, delays: usize) -> i64 {
     release
 }
 
+/// Curve numbers of dry ground at the normal numbers 0, 5, 10 .. 100.
+const DRY_GROUND: [i64; 21] =
+    [0, 2, 4, 6, 9, 12, 15, 18, 22, 26, 31, 35, 40, 45, 51, 57, 63, 70, 78, 87, 100];
+/// Curve numbers of wet ground at the same normal numbers.
+const WET_GROUND: [i64; 21] =
+    [0, 13, 22, 30, 37, 43, 50, 55, 60, 65, 70, 74, 78, 82, 85, 88, 91, 94, 96, 98, 100];
+
 /// 2. Curve number c for the antecedent moisture condition.
 pub fn curve_number(cn: i64, amc: u32) -> i64 {
     match amc {
-        1 => nearest(4200 * cn, 10_000 - 58 * cn).max(1),
-        3 => nearest(2300 * cn, 1000 + 13 * cn).max(1),
+        1 => on_the_line(&DRY_GROUND, cn).max(1),
+        3 => on_the_line(&WET_GROUND, cn).max(1),
         _ => cn,
     }
+}
+
+/// The nearest whole number on the straight line between the two listed normal numbers around cn.
+fn on_the_line(table: &[i64; 21], cn: i64) -> i64 {
+    let place = (cn - 1) / 5;
+    let (from, to) = (table[place as usize], table[place as usize + 1]);
+    nearest(5 * from + (cn - 5 * place) * (to - from), 5)
 }
 
 /// The nearest whole number of a fraction, halves up.

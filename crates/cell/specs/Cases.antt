@@ -16,7 +16,7 @@ use Rattle.cell.specs.declared.Depth.the-variants.{Over, Under}
 use Rattle.cell.specs.declared.Reading.{Reading}
 use Rattle.cell.specs.declared.ranges.Soil.{Soil}
 use Rattle.cell.specs.Queue.{slot, shifted, spared, joined}
-use Rattle.cell.specs.Rules.{curveOf, stormOf, shallowOf, runoffOf, lackOf, storedOf}
+use Rattle.cell.specs.Rules.{dryGround, wetGround, lineOf, curveOf, stormOf, shallowOf, runoffOf, lackOf, storedOf}
 use Rattle.cell.specs.Step.{given, release, delay, runoff, etvad, lack, sunk, stored, queueAfter}
 use Rattle.cell.specs.Table.{at, eqZ, eqZ→eq, eqNL, eqNL→eq}
 
@@ -101,13 +101,14 @@ cases =
     ∷ storm-runoff 80 12953 1
     ∷ storm-runoff 80 50800 14287
     ∷ storm-runoff 100 0 0
-    -- cn 80: 63, 80, 90 for amc 1, 2, 3. cn 1: 1, 1, 2
+    -- [1] cn 80: 63, 80, 91 for amc 1, 2, 3. cn 1: 1, 1, 3. Wet ground at 75: 88
     ∷ curve-number 80 1 63
     ∷ curve-number 80 2 80
-    ∷ curve-number 80 3 90
+    ∷ curve-number 80 3 91
     ∷ curve-number 1 1 1
     ∷ curve-number 1 2 1
-    ∷ curve-number 1 3 2
+    ∷ curve-number 1 3 3
+    ∷ curve-number 75 3 88
     -- G = 50,800, q = 14,287, vadpor 200, no delay: d 50,000 gives runoff 43,613; 253,999 gives 14,288; 254,000 gives 14,287; 0 gives 50,800
     ∷ runs-off 50800 14287 0 200 (Under 50000) 43613
     ∷ runs-off 50800 14287 0 200 (Under 253999) 14288
@@ -122,5 +123,5 @@ cases =
     ∷ []
 
 pub starred : (k : ℕ) → k < length cases → Says (getD cases k (storm-runoff 0 0 0))
-unfolding test curveOf stormOf shallowOf runoffOf levelUm ofBits slot shifted spared
+unfolding test dryGround wetGround lineOf curveOf stormOf shallowOf runoffOf levelUm ofBits slot shifted spared
 starred k h = says (getD cases k (storm-runoff 0 0 0)) (at test (storm-runoff 0 0 0) cases tt k h)

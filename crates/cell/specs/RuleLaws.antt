@@ -3,18 +3,19 @@ use mathlib.Core.Path.{_≡_, refl}
 use mathlib.Core.Bool.{Bool, true, false, cond}
 use mathlib.Core.Logic.{⊎-elim}
 use mathlib.Core.List.{List}
-use Prim.Native.Nat.{ℕ, zero, suc, _+_, _-_, _*_, _≤_, _<_, max}
-use native.Mathlib.Nat.{mul-le-mul, div-le-of-le-mul, div-lt-iff-lt-mul, le-trans, le-of-eq, eq-or-lt-of-le}
+use Prim.Native.Nat.{ℕ, zero, suc, _+_, _-_, _*_, _/_, _%_, _≤_, _<_, max}
+use native.Mathlib.Nat.{mul-le-mul, div-le-of-le-mul, le-trans, le-of-eq, eq-or-lt-of-le}
 use native.Mathlib.Omega.{arith}
 use borrow.Author.Tests.{ltb-true, leb-true, leb-false, eq-eqb}
-use lib.Dec.{leb, ltb, eqb}
+use lib.Dec.{T, leb, ltb, eqb, leb→le}
 use lib.ListN.{getD}
 use lib.IntN.{ℤ, pos, negsuc, natAbs, _-ℤ_}
 use Rattle.cell.specs.declared.Depth.{Depth}
 use Rattle.cell.specs.declared.Depth.the-variants.{Over, Under}
+use Rattle.cell.specs.Table.{both, left, right, everyBelow, below}
 use Rattle.cell.specs.Bounds.{share, either, abs-sub, abs-minus}
 use Rattle.cell.specs.Depth.{sided, depthOf, distance}
-use Rattle.cell.specs.Rules.{nearest, curveOf, stormOf, reachOf, delayOf, shallowOf, runoffOf, lackOf, fadingOf, etsatOf, drainOf, storedOf, directOf, rechargeOf}
+use Rattle.cell.specs.Rules.{dryGround, wetGround, lineOf, curveOf, stormOf, reachOf, delayOf, shallowOf, runoffOf, lackOf, fadingOf, etsatOf, drainOf, storedOf, directOf, rechargeOf}
 
 -- ---- the depth of two heights within their ranges
 sided-abs : (d : ℤ) → distance (sided d) ≡ natAbs d
@@ -27,10 +28,30 @@ pub depth-le : (top level : ℤ) → natAbs top ≤ 10000000000 → natAbs level
 unfolding depthOf
 depth-le top level h k = rw sided-abs (abs-sub top level 10000000000 10000000000 h k)
 
--- ---- 2. the curve number is in 1..100
-nearest-le : (n d k : ℕ) → 0 < d → 2 * n + d < (k + 1) * (2 * d) → nearest n d ≤ k
-nearest-le n d k p h = omega (arith, div-lt-iff-lt-mul {k = 2 * d} {x = 2 * n + d} {y = k + 1} (omega arith) .1 h)
+-- ---- 2. at a listed normal number the line gives the listed one
+pub line-listed : (listed : List ℕ) (cn : ℕ) → cn % 5 ≡ 0 → lineOf listed cn ≡ getD listed (cn / 5) 0
+unfolding lineOf
+line-listed listed cn e = rw e (omega arith)
 
+-- computed over the whole table, at each cn up to 100: dry ground's line is not above cn, wet ground's neither below cn nor above 100
+inOrder : ℕ → Bool
+inOrder cn = both (leb (lineOf dryGround cn) cn) (both (leb cn (lineOf wetGround cn)) (leb (lineOf wetGround cn) 100))
+
+table-test : T (everyBelow inOrder 101)
+unfolding inOrder lineOf dryGround wetGround
+table-test = tt
+
+lines-in-order : (cn : ℕ) → cn ≤ 100 → (lineOf dryGround cn ≤ cn) × (cn ≤ lineOf wetGround cn) × (lineOf wetGround cn ≤ 100)
+unfolding inOrder
+lines-in-order cn h =
+    let dry = leb (lineOf dryGround cn) cn in
+    let wet = leb cn (lineOf wetGround cn) in
+    let top = leb (lineOf wetGround cn) 100 in
+    let t = below inOrder 101 table-test cn (omega arith) in
+    let u = right dry (both wet top) t in
+    (leb→le _ _ (left dry (both wet top) t), leb→le _ _ (left wet top u), leb→le _ _ (right wet top u))
+
+-- the curve number is in 1..100
 pub curve-low : (cn amc : ℕ) → 1 ≤ curveOf cn amc
 unfolding curveOf
 curve-low cn amc = omega arith
@@ -38,11 +59,14 @@ curve-low cn amc = omega arith
 pub curve-high : (cn amc : ℕ) → cn ≤ 100 → curveOf cn amc ≤ 100
 unfolding curveOf
 curve-high cn amc h =
-    either (λ n. max 1 n ≤ 100) (eqb amc 1)
-    (λ e. omega (arith, nearest-le (4200 * cn) (10000 - 58 * cn) 100 (omega arith) (omega arith)))
-    (λ e. either (λ n. max 1 n ≤ 100) (eqb amc 3)
-    (λ e. omega (arith, nearest-le (2300 * cn) (1000 + 13 * cn) 100 (omega arith) (omega arith)))
-    (λ e. omega arith))
+    let l = lines-in-order cn h in
+    either (λ n. max 1 n ≤ 100) (eqb amc 1) (λ e. omega arith)
+    (λ e. either (λ n. max 1 n ≤ 100) (eqb amc 3) (λ e. omega arith) (λ e. omega arith))
+
+-- over the whole table, from 1 up: dry ground is never above normal, and wet ground never below
+pub dry-normal-wet : (cn : ℕ) → 1 ≤ cn → cn ≤ 100 → (curveOf cn 1 ≤ cn) × (curveOf cn 2 ≡ cn) × (cn ≤ curveOf cn 3)
+unfolding curveOf
+dry-normal-wet cn l h = let b = lines-in-order cn h in (omega arith, omega arith, omega arith)
 
 -- ---- 3. no more runs off than rains
 pub storm-le : (c rain : ℕ) → stormOf c rain ≤ rain

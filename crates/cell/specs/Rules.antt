@@ -1,7 +1,7 @@
--- The number rules of one accepted step, one definition each, in whole µm. The numbers are document 01's. Definitions only.
+-- The number rules of one accepted step, one definition each, in whole µm. The numbers are document 01's; [n] is request n of document 02. Definitions only.
 use mathlib.Core.Bool.{cond}
-use mathlib.Core.List.{List}
-use Prim.Native.Nat.{ℕ, zero, suc, _+_, _-_, _*_, _/_, min, max}
+use mathlib.Core.List.{List, [], _∷_}
+use Prim.Native.Nat.{ℕ, zero, suc, _+_, _-_, _*_, _/_, _%_, min, max}
 use lib.Dec.{leb, ltb, eqb}
 use lib.ListN.{getD}
 use lib.IntN.{ℤ, pos, _-ℤ_}
@@ -12,12 +12,26 @@ use Rattle.cell.specs.declared.Depth.the-variants.{Over, Under}
 abbrev pub nearest : ℕ → ℕ → ℕ
 nearest n d = (2 * n + d) / (2 * d)
 
--- 2. curve number: cn for amc 2, drier for amc 1, wetter for amc 3; at least 1
+-- 2. [1] the handbook's numbers for dry ground and for wet, listed at the normal numbers 0, 5, 10 .. 100
+unfoldable pub dryGround : List ℕ
+dryGround = 0 ∷ 2 ∷ 4 ∷ 6 ∷ 9 ∷ 12 ∷ 15 ∷ 18 ∷ 22 ∷ 26 ∷ 31 ∷ 35 ∷ 40 ∷ 45 ∷ 51 ∷ 57 ∷ 63 ∷ 70 ∷ 78 ∷ 87 ∷ 100 ∷ []
+
+unfoldable pub wetGround : List ℕ
+wetGround = 0 ∷ 13 ∷ 22 ∷ 30 ∷ 37 ∷ 43 ∷ 50 ∷ 55 ∷ 60 ∷ 65 ∷ 70 ∷ 74 ∷ 78 ∷ 82 ∷ 85 ∷ 88 ∷ 91 ∷ 94 ∷ 96 ∷ 98 ∷ 100 ∷ []
+
+-- between two of them a straight line: at cn = 5k + j it is j fifths of the way from the k-th to the next, nearest whole, halves up
+unfoldable pub lineOf : List ℕ → ℕ → ℕ
+lineOf listed cn =
+    let k : ℕ = cn / 5 in
+    let j : ℕ = cn % 5 in
+    nearest ((5 - j) * getD listed k 0 + j * getD listed (k + 1) 0) 5
+
+-- curve number: cn for amc 2, by dry ground for amc 1, by wet ground for amc 3; never below 1
 unfoldable pub curveOf : ℕ → ℕ → ℕ
 curveOf cn amc =
     max 1
-    (cond (eqb amc 1) (nearest (4200 * cn) (10000 - 58 * cn))
-    (cond (eqb amc 3) (nearest (2300 * cn) (1000 + 13 * cn))
+    (cond (eqb amc 1) (lineOf dryGround cn)
+    (cond (eqb amc 3) (lineOf wetGround cn)
     cn))
 
 -- 3. storm runoff: X = c x rain - 50,800 (100 - c), Y = c x rain + 203,200 (100 - c); 0 if X <= 0, else X x X / (c x Y)

@@ -1,22 +1,23 @@
--- A test that is computed over a whole table, and what it says of each entry. It holds for any table. Assumes nothing.
-use mathlib.Core.Path.{_≡_, refl, ap, ap₂}
+-- A test that is computed over a whole table, or at each number below a limit, and what it says of each. It holds for any table. Assumes nothing.
+use mathlib.Core.Path.{_≡_, refl, ap, ap₂, subst⁻¹}
 use mathlib.Core.Bool.{Bool, true, false}
 use mathlib.Core.List.{List, [], _∷_}
+use mathlib.Core.Logic.{⊎-elim}
 use Prim.Native.Nat.{ℕ, zero, suc, _<_}
-use native.Mathlib.Nat.{le-of-suc-le-suc, not-suc-le-zero}
+use native.Mathlib.Nat.{eq-or-lt-of-le, le-of-suc-le-suc, not-suc-le-zero}
 use lib.Dec.{T, eqb, eqb→eq}
 use lib.ListN.{length, getD}
 use lib.IntN.{ℤ, pos, negsuc}
 
-abbrev both : Bool → Bool → Bool
+abbrev pub both : Bool → Bool → Bool
 both true b = b
 both false b = false
 
-left : (a b : Bool) → T (both a b) → T a
+pub left : (a b : Bool) → T (both a b) → T a
 left true b t = tt
 left false b t = t
 
-right : (a b : Bool) → T (both a b) → T b
+pub right : (a b : Bool) → T (both a b) → T b
 right true b t = t
 right false b t = absurd t
 
@@ -28,6 +29,16 @@ pub at : {A : Type 0} (f : A → Bool) (none : A) (xs : List A) → T (every f x
 at f none [] t k h = absurd (not-suc-le-zero h)
 at f none (x ∷ xs) t zero h = left (f x) (every f xs) t
 at f none (x ∷ xs) t (suc k) h = at f none xs (right (f x) (every f xs) t) k (le-of-suc-le-suc h)
+
+abbrev pub everyBelow : (ℕ → Bool) → ℕ → Bool
+everyBelow f zero = true
+everyBelow f (suc n) = both (f n) (everyBelow f n)
+
+pub below : (f : ℕ → Bool) (n : ℕ) → T (everyBelow f n) → (k : ℕ) → k < n → T (f k)
+below f zero t k h = absurd (not-suc-le-zero h)
+below f (suc n) t k h =
+    ⊎-elim (λ (e : k ≡ n). subst⁻¹ (λ (m : ℕ). T (f m)) e (left (f n) (everyBelow f n) t))
+    (λ (l : k < n). below f n (right (f n) (everyBelow f n) t) k l) (eq-or-lt-of-le (le-of-suc-le-suc h))
 
 -- ---- tests of what is no plain number: an integer, a list of numbers, a number with a list
 abbrev pub eqZ : ℤ → ℤ → Bool

@@ -1,9 +1,9 @@
 // The number rules of one accepted step, in the order of document 01.
 ghost use mathlib.Core.Path.{_≡_};
-ghost use Prim.Native.Nat.{_+_, _≤_, min, max};
+ghost use Prim.Native.Nat.{_+_, _-_, _*_, _≤_, min, max};
 ghost use lib.IntN.{natAbs};
 ghost use Rattle.cell.specs.Depth.{depthOf, distance};
-ghost use Rattle.cell.specs.Rules.{nearest, curveOf, stormOf, reachOf, delayOf, shallowOf, runoffOf, etvadOf, lackOf, fadingOf, etsatOf, drainOf, storedOf, directOf, rechargeOf};
+ghost use Rattle.cell.specs.Rules.{nearest, lineOf, curveOf, stormOf, reachOf, delayOf, shallowOf, runoffOf, etvadOf, lackOf, fadingOf, etsatOf, drainOf, storedOf, directOf, rechargeOf};
 use crate::Card;
 use crate::Depth;
 use crate::Net;
@@ -39,15 +39,86 @@ fn at_least_one(c: u64) -> u64
     if c < 1 { 1 } else { c }
 }
 
+// [1] The handbook's numbers for dry ground, at the normal numbers 0, 5, 10 .. 100.
+const DRY: [u8; 21] = [
+    0,
+    2,
+    4,
+    6,
+    9,
+    12,
+    15,
+    18,
+    22,
+    26,
+    31,
+    35,
+    40,
+    45,
+    51,
+    57,
+    63,
+    70,
+    78,
+    87,
+    100,
+];
+
+// And for wet ground.
+const WET: [u8; 21] = [
+    0,
+    13,
+    22,
+    30,
+    37,
+    43,
+    50,
+    55,
+    60,
+    65,
+    70,
+    74,
+    78,
+    82,
+    85,
+    88,
+    91,
+    94,
+    96,
+    98,
+    100,
+];
+
+// j fifths of the way from a to b.
+fn part_way(a: u8, b: u8, j: u64) -> u64
+    requires { ⌜ j ≤ 5 ⌝ }
+    ensures { λ r. ⌜ r ≡ nearest ((5 - j) * a + j * b) 5 ⌝ }
+{
+    rounded((5 - j) * (a as u64) + j * (b as u64), 5)
+}
+
+// What the straight line between two listed numbers gives at cn.
+fn on_line(listed: [u8; 21], cn: u64) -> u64
+    requires { ⌜ cn ≤ 100 ⌝ }
+    ensures { λ r. ⌜ r ≡ lineOf listed cn ⌝ }
+{
+    let k = (cn / 5) as usize;
+    let j = cn % 5;
+    if j == 0 {
+        return listed[k] as u64;
+    }
+    part_way(listed[k], listed[k + 1], j)
+}
+
 pub fn curve(cn: u64, amc: u32) -> u64
     requires { ⌜ (1 ≤ cn) × (cn ≤ 100) ⌝ }
     ensures { λ r. ⌜ r ≡ curveOf cn amc ⌝ }
     ensures { λ r. ⌜ (1 ≤ r) × (r ≤ 100) ⌝ }
 {
     if amc == 1 {
-        at_least_one(rounded(4200 * cn, 10000 - 58 * cn))
+        at_least_one(on_line(DRY, cn))
     } else if amc == 3 {
-        at_least_one(rounded(2300 * cn, 1000 + 13 * cn))
+        at_least_one(on_line(WET, cn))
     } else {
         at_least_one(cn)
     }

@@ -1,7 +1,8 @@
-// Runs the cases of document 01 that are not proved: its unstarred edges, and both sides of each refusal number.
+// Runs the cases of document 01 that are not proved: its unstarred edges, and both sides of each refusal number; and the ground's two curve tables.
 mod card_texts;
 mod cards;
 mod fields;
+mod grounds;
 mod heads;
 mod plots;
 mod readings;
@@ -15,6 +16,7 @@ fn main() {
     cards::cases();
     sites::cases();
     soils::cases();
+    grounds::cases();
     rows::cases();
     fields::cases();
     heads::cases();

@@ -18,25 +18,92 @@ fn storm_runoff_of_100_without_rain() {
     assert_eq!(storm_runoff(100, 1), 1);
 }
 
-#[test]
-fn curve_numbers() {
-    assert_eq!([1, 2, 3].map(|amc| curve_number(80, amc)), [63, 80, 90]);
-    assert_eq!([1, 2, 3].map(|amc| curve_number(1, amc)), [1, 1, 2]);
-    assert_eq!([1, 2, 3].map(|amc| curve_number(100, amc)), [100, 100, 100]);
+/// The handbook's table: a normal number, then the dry and the wet one for it.
+const TABLE: [[i64; 3]; 21] = [
+    [0, 0, 0],
+    [5, 2, 13],
+    [10, 4, 22],
+    [15, 6, 30],
+    [20, 9, 37],
+    [25, 12, 43],
+    [30, 15, 50],
+    [35, 18, 55],
+    [40, 22, 60],
+    [45, 26, 65],
+    [50, 31, 70],
+    [55, 35, 74],
+    [60, 40, 78],
+    [65, 45, 82],
+    [70, 51, 85],
+    [75, 57, 88],
+    [80, 63, 91],
+    [85, 70, 94],
+    [90, 78, 96],
+    [95, 87, 98],
+    [100, 100, 100],
+];
+
+/// The curve numbers of dry, normal and wet ground.
+fn three(cn: i64) -> [i64; 3] {
+    [1, 2, 3].map(|amc| curve_number(cn, amc))
 }
 
 #[test]
-fn curve_numbers_are_nearest() {
-    for cn in 1..=100i64 {
-        for (amc, above, below) in
-            [(1, 4200 * cn, 10_000 - 58 * cn), (3, 2300 * cn, 1000 + 13 * cn)]
-        {
+fn curve_numbers() {
+    assert_eq!(three(80), [63, 80, 91]);
+    assert_eq!(three(1), [1, 1, 3]);
+    assert_eq!(three(75), [57, 75, 88]);
+    assert_eq!(three(96), [90, 96, 98]);
+    assert_eq!(three(99), [97, 99, 100]);
+    assert_eq!(three(100), [100, 100, 100]);
+}
+
+#[test]
+fn curve_numbers_at_the_listed_ones() {
+    for [normal, dry, wet] in &TABLE[1..] {
+        assert_eq!(three(*normal), [*dry, *normal, *wet]);
+    }
+}
+
+/// In fifths, each listed number weighs the more the nearer it is; no fifth is a half.
+#[test]
+fn curve_numbers_are_nearest_between_two() {
+    for cn in 1..=100 {
+        let around = TABLE.windows(2).find(|two| two[0][0] <= cn && cn <= two[1][0]);
+        let [low, high] = around.unwrap() else { unreachable!() };
+        for (amc, place) in [(1, 1), (3, 2)] {
+            let fifths = low[place] * (high[0] - cn) + high[place] * (cn - low[0]);
             let c = curve_number(cn, amc);
-            let near = 2 * above >= (2 * c - 1) * below && 2 * above < (2 * c + 1) * below;
-            assert!(near || (c == 1 && 2 * above < below), "cn {cn} amc {amc}");
-            assert!((1..=100).contains(&c));
+            let near = (5 * c - fifths).abs() <= 2;
+            assert!(near || (c == 1 && fifths < 3), "cn {cn} amc {amc}");
+            assert!((low[place]..=high[place]).contains(&c), "cn {cn} amc {amc}");
         }
     }
+}
+
+#[test]
+fn dry_is_never_above_normal_and_wet_never_below() {
+    for cn in 1..=100 {
+        let [dry, normal, wet] = three(cn);
+        assert!(1 <= dry && dry <= normal && normal == cn && cn <= wet && wet <= 100, "cn {cn}");
+    }
+}
+
+/// At the most rain each curve number from 5 up has its own runoff; one below 5 has none.
+#[test]
+fn curve_numbers_from_5_up_show() {
+    let most = |c| storm_runoff(c, 1_000_000);
+    assert_eq!([0, 1, 2, 3, 4, 5].map(most), [0, 0, 0, 0, 0, 249]);
+    assert!((5..=100).all(|c| most(c - 1) < most(c)));
+}
+
+#[test]
+fn a_storm_on_dry_normal_and_wet_ground() {
+    let runoff = |amc| {
+        let reading = Reading { amc, ..example() };
+        step(&card(1, &[]), &PLOT, &mut [0; 32], &reading).1.runoff
+    };
+    assert_eq!([1, 2, 3].map(runoff), [2583, 14_287, 29_556]);
 }
 
 #[test]

@@ -1,0 +1,37 @@
+// [1] The curve numbers of dry and of wet ground: at a listed normal number, beside it, and in the first and the last five.
+use crate::plots;
+use crate::show;
+
+// The most rain there is, on ground of this wetness, given to the example's plot with this curve number.
+fn storm(cn: i64, amc: u32) {
+    show::form(b"rain=1000000 amc=#", &[amc as u64]);
+    show::signed(b" cn=", cn);
+    let soil = [10000000, 1500000, 200, 100000, cn];
+    let mut rows = [0u32; 32];
+    let mut r = plots::reading();
+    r.rain = 1000000;
+    r.amc = amc;
+    show::step(plots::card(), &soil, &mut rows, r);
+}
+
+// On dry ground, then on wet.
+fn grounds(cn: i64) {
+    storm(cn, 1);
+    storm(cn, 3);
+}
+
+pub fn cases() {
+    grounds(1);
+    grounds(4);
+    grounds(5);
+    grounds(6);
+    grounds(74);
+    grounds(75);
+    grounds(76);
+    grounds(80);
+    grounds(94);
+    grounds(95);
+    grounds(96);
+    grounds(99);
+    grounds(100);
+}
