@@ -121,7 +121,7 @@ fn take(given: &mut Given, slices: &mut Slices, reading: &[u32]) {
     slices.reading.slice().copy_from_slice(reading);
 }
 
-/// What every curve number in turn must be met for.
+/// What the sweep over every curve number must meet.
 pub const CURVES: &[&str] = &[
     "dry, seen in the runoff",
     "dry, below 5 and so without runoff",

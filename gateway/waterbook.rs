@@ -38,7 +38,7 @@
 use core::fmt;
 
 /// The version of the library; include/waterbook.h says what raises which part.
-pub const VERSION_MAJOR: u32 = 1;
+pub const VERSION_MAJOR: u32 = 2;
 pub const VERSION_MINOR: u32 = 0;
 pub const VERSION_PATCH: u32 = 0;
 /// The version as one number.

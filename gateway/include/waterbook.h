@@ -90,7 +90,7 @@ extern "C" {
 /* The version. MAJOR rises where a call answers the same numbers in another way than before, or where a call, a width
  * or a constant goes or changes its meaning: look at the host again. MINOR rises where a call or constant comes, or a
  * room or stack stated below grows: build the host again. PATCH rises where none of this is so, as for speed. */
-#define WATERBOOK_VERSION_MAJOR 1
+#define WATERBOOK_VERSION_MAJOR 2
 #define WATERBOOK_VERSION_MINOR 0
 #define WATERBOOK_VERSION_PATCH 0
 #define WATERBOOK_VERSION \

@@ -1,5 +1,5 @@
 -- Laws of the number rules and of the depth, so that no caller looks into a rule's text. Assumes nothing.
-use mathlib.Core.Path.{_≡_, refl}
+use mathlib.Core.Path.{_≡_, refl, sym}
 use mathlib.Core.Bool.{Bool, true, false, cond}
 use mathlib.Core.Logic.{⊎-elim}
 use mathlib.Core.List.{List}
@@ -15,7 +15,7 @@ use Rattle.cell.specs.declared.Depth.the-variants.{Over, Under}
 use Rattle.cell.specs.Table.{both, left, right, everyBelow, below}
 use Rattle.cell.specs.Bounds.{share, either, abs-sub, abs-minus}
 use Rattle.cell.specs.Depth.{sided, depthOf, distance}
-use Rattle.cell.specs.Rules.{dryGround, wetGround, lineOf, curveOf, stormOf, reachOf, delayOf, shallowOf, runoffOf, lackOf, fadingOf, etsatOf, drainOf, storedOf, directOf, rechargeOf}
+use Rattle.cell.specs.Rules.{nearest, dryGround, wetGround, lineOf, curveOf, stormOf, reachOf, delayOf, shallowOf, runoffOf, lackOf, fadingOf, etsatOf, drainOf, storedOf, directOf, rechargeOf}
 
 -- ---- the depth of two heights within their ranges
 sided-abs : (d : ℤ) → distance (sided d) ≡ natAbs d
@@ -33,21 +33,38 @@ pub line-listed : (listed : List ℕ) (cn : ℕ) → cn % 5 ≡ 0 → lineOf lis
 unfolding lineOf
 line-listed listed cn e = rw e (omega arith)
 
+-- the line as the code walks it: from the listed number below cn, or where cn is listed from the one before
+pub line-below : (listed : List ℕ) (cn k j : ℕ) → 1 ≤ cn → k ≡ (cn - 1) / 5 → j ≡ cn - 5 * k
+    → lineOf listed cn ≡ nearest ((5 - j) * getD listed k 0 + j * getD listed (k + 1) 0) 5
+unfolding lineOf
+line-below listed cn k j h e f =
+    ⊎-elim
+    (λ (z : 0 ≡ cn % 5).
+    let o : cn % 5 ≡ 0 = sym z in
+    let p : cn / 5 ≡ k + 1 = omega arith in
+    let q : j ≡ 5 = omega arith in
+    rw (o, p, q) (omega arith))
+    (λ (z : 0 < cn % 5).
+    let p : cn / 5 ≡ k = omega arith in
+    let q : cn % 5 ≡ j = omega arith in
+    rw (p, q))
+    (eq-or-lt-of-le (omega arith))
+
 -- computed over the whole table, at each cn up to 100: dry ground's line is not above cn, wet ground's neither below cn nor above 100
-inOrder : ℕ → Bool
-inOrder cn = both (leb (lineOf dryGround cn) cn) (both (leb cn (lineOf wetGround cn)) (leb (lineOf wetGround cn) 100))
+around : ℕ → Bool
+around cn = both (leb (lineOf dryGround cn) cn) (both (leb cn (lineOf wetGround cn)) (leb (lineOf wetGround cn) 100))
 
-table-test : T (everyBelow inOrder 101)
-unfolding inOrder lineOf dryGround wetGround
-table-test = tt
+around-each : T (everyBelow around 101)
+unfolding around lineOf dryGround wetGround
+around-each = tt
 
-lines-in-order : (cn : ℕ) → cn ≤ 100 → (lineOf dryGround cn ≤ cn) × (cn ≤ lineOf wetGround cn) × (lineOf wetGround cn ≤ 100)
-unfolding inOrder
-lines-in-order cn h =
+lines-around : (cn : ℕ) → cn ≤ 100 → (lineOf dryGround cn ≤ cn) × (cn ≤ lineOf wetGround cn) × (lineOf wetGround cn ≤ 100)
+unfolding around
+lines-around cn h =
     let dry = leb (lineOf dryGround cn) cn in
     let wet = leb cn (lineOf wetGround cn) in
     let top = leb (lineOf wetGround cn) 100 in
-    let t = below inOrder 101 table-test cn (omega arith) in
+    let t = below around 101 around-each cn (omega arith) in
     let u = right dry (both wet top) t in
     (leb→le _ _ (left dry (both wet top) t), leb→le _ _ (left wet top u), leb→le _ _ (right wet top u))
 
@@ -59,14 +76,14 @@ curve-low cn amc = omega arith
 pub curve-high : (cn amc : ℕ) → cn ≤ 100 → curveOf cn amc ≤ 100
 unfolding curveOf
 curve-high cn amc h =
-    let l = lines-in-order cn h in
+    let l = lines-around cn h in
     either (λ n. max 1 n ≤ 100) (eqb amc 1) (λ e. omega arith)
     (λ e. either (λ n. max 1 n ≤ 100) (eqb amc 3) (λ e. omega arith) (λ e. omega arith))
 
 -- over the whole table, from 1 up: dry ground is never above normal, and wet ground never below
 pub dry-normal-wet : (cn : ℕ) → 1 ≤ cn → cn ≤ 100 → (curveOf cn 1 ≤ cn) × (curveOf cn 2 ≡ cn) × (cn ≤ curveOf cn 3)
 unfolding curveOf
-dry-normal-wet cn l h = let b = lines-in-order cn h in (omega arith, omega arith, omega arith)
+dry-normal-wet cn l h = let b = lines-around cn h in (omega arith, omega arith, omega arith)
 
 -- ---- 3. no more runs off than rains
 pub storm-le : (c rain : ℕ) → stormOf c rain ≤ rain
@@ -80,6 +97,10 @@ storm-le c rain =
 
     turn : c * rain * y ≡ c * y * rain
     turn = omega arith
+
+-- and nothing runs off where nothing rains
+pub storm-dry : (c rain : ℕ) → rain ≡ 0 → 0 ≡ stormOf c rain
+storm-dry c rain e = omega (arith, storm-le c rain)
 
 -- ---- 4. the delay is one of the m; where it is one, its depth is at most n; and each deeper one's is not: it is the largest
 pub reach-le : (ds : List ℕ) (m n : ℕ) → reachOf ds m n ≤ m

@@ -40,7 +40,7 @@ fn at_least_one(c: u64) -> u64
 }
 
 // [1] The handbook's numbers for dry ground, at the normal numbers 0, 5, 10 .. 100.
-const DRY: [u8; 21] = [
+const DRY_GROUND: [u8; 21] = [
     0,
     2,
     4,
@@ -65,7 +65,7 @@ const DRY: [u8; 21] = [
 ];
 
 // And for wet ground.
-const WET: [u8; 21] = [
+const WET_GROUND: [u8; 21] = [
     0,
     13,
     22,
@@ -89,7 +89,7 @@ const WET: [u8; 21] = [
     100,
 ];
 
-// j fifths of the way from a to b.
+// j fifths of the way from a to b, to the nearest whole.
 fn part_way(a: u8, b: u8, j: u64) -> u64
     requires { ⌜ j ≤ 5 ⌝ }
     ensures { λ r. ⌜ r ≡ nearest ((5 - j) * a + j * b) 5 ⌝ }
@@ -97,16 +97,14 @@ fn part_way(a: u8, b: u8, j: u64) -> u64
     rounded((5 - j) * (a as u64) + j * (b as u64), 5)
 }
 
-// What the straight line between two listed numbers gives at cn.
+// What the straight line between two listed numbers gives at cn, which is j above the lower one, 5 at a listed number.
 fn on_line(listed: [u8; 21], cn: u64) -> u64
-    requires { ⌜ cn ≤ 100 ⌝ }
+    requires { ⌜ (1 ≤ cn) × (cn ≤ 100) ⌝ }
     ensures { λ r. ⌜ r ≡ lineOf listed cn ⌝ }
 {
-    let k = (cn / 5) as usize;
-    let j = cn % 5;
-    if j == 0 {
-        return listed[k] as u64;
-    }
+    let below = (cn - 1) / 5;
+    let j = cn - 5 * below;
+    let k = below as usize;
     part_way(listed[k], listed[k + 1], j)
 }
 
@@ -116,9 +114,9 @@ pub fn curve(cn: u64, amc: u32) -> u64
     ensures { λ r. ⌜ (1 ≤ r) × (r ≤ 100) ⌝ }
 {
     if amc == 1 {
-        at_least_one(on_line(DRY, cn))
+        at_least_one(on_line(DRY_GROUND, cn))
     } else if amc == 3 {
-        at_least_one(on_line(WET, cn))
+        at_least_one(on_line(WET_GROUND, cn))
     } else {
         at_least_one(cn)
     }
@@ -137,6 +135,18 @@ pub fn storm(c: u64, rain: Water) -> Water
     let x = p - s;
     let y = p + 203200 * (100 - c);
     Water(x * x / (c * y))
+}
+
+// The storm runoff on this ground, which need not be looked at on a day without rain.
+pub fn storm_on(cn: u64, amc: u32, rain: Water) -> Water
+    requires { ⌜ (1 ≤ cn) × (cn ≤ 100) × (rain .0 ≤ 1000000) ⌝ }
+    ensures { λ r. ⌜ r .0 ≡ stormOf (curveOf cn amc) (rain .0) ⌝ }
+    ensures { λ r. ⌜ r .0 ≤ rain .0 ⌝ }
+{
+    if rain.0 == 0 {
+        return Water(0);
+    }
+    storm(curve(cn, amc), rain)
 }
 
 // The largest k ≤ m whose delay depth is at most n, or 0.

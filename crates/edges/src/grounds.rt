@@ -1,4 +1,4 @@
-// [1] The curve numbers of dry and of wet ground: at a listed normal number, beside it, and in the first and the last five.
+// [1] The curve numbers of dry and of wet ground: the first that show, at a listed normal number and beside it, the last five.
 use crate::plots;
 use crate::show;
 
@@ -22,16 +22,16 @@ fn grounds(cn: i64) {
 
 pub fn cases() {
     grounds(1);
-    grounds(4);
-    grounds(5);
-    grounds(6);
+    grounds(2);
+    grounds(11);
+    grounds(12);
     grounds(74);
     grounds(75);
     grounds(76);
     grounds(80);
-    grounds(94);
     grounds(95);
     grounds(96);
+    grounds(97);
     grounds(99);
     grounds(100);
 }

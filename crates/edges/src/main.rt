@@ -1,4 +1,4 @@
-// Runs the cases of document 01 that are not proved: its unstarred edges, and both sides of each refusal number; and the ground's two curve tables.
+// Runs the cases of document 01 that are not proved: its unstarred edges, and both sides of each refusal number; for [1], storms on dry and on wet ground.
 mod card_texts;
 mod cards;
 mod fields;
