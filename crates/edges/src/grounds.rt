@@ -7,11 +7,10 @@ fn storm(cn: i64, amc: u32) {
     show::form(b"rain=1000000 amc=#", &[amc as u64]);
     show::signed(b" cn=", cn);
     let soil = [10000000, 1500000, 200, 100000, cn];
-    let mut rows = [0u32; 32];
     let mut r = plots::reading();
     r.rain = 1000000;
     r.amc = amc;
-    show::step(plots::card(), &soil, &mut rows, r);
+    show::plot(&soil, r);
 }
 
 // On dry ground, then on wet.

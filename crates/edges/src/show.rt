@@ -99,9 +99,14 @@ pub fn step(card: Card, soil: &[i64], rows: &mut [u32], r: Reading) {
     row(rows, card.delays);
 }
 
-// One reading, given to the example's plot, whose row holds zeros.
+// One reading, given to a plot of these soil numbers on the example's card, whose row holds zeros.
+pub fn plot(soil: &[i64], r: Reading) {
+    let mut rows = [0u32; 32];
+    step(plots::card(), soil, &mut rows, r);
+}
+
+// One reading, given to the example's plot.
 pub fn reading(r: Reading) {
     let soil = plots::soil();
-    let mut rows = [0u32; 32];
-    step(plots::card(), &soil, &mut rows, r);
+    plot(&soil, r);
 }

@@ -11,10 +11,9 @@ fn plot(top: i64, etdepth: i64, vadpor: i64, leak: i64, cn: i64, rain: u32) {
     show::signed(b" leak=", leak);
     show::signed(b" cn=", cn);
     let soil = [top, etdepth, vadpor, leak, cn];
-    let mut rows = [0u32; 32];
     let mut r = plots::reading();
     r.rain = rain;
-    show::step(plots::card(), &soil, &mut rows, r);
+    show::plot(&soil, r);
 }
 
 // Number 4: both sides of each end.
