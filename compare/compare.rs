@@ -24,6 +24,7 @@ use tally::Tally;
 const MUST: &[(&str, &[&str])] = &[
     ("branches", branches::BRANCHES),
     ("every curve number", steps::CURVES),
+    ("every delay", steps::DELAYS),
     ("refused for", branches::REFUSALS),
     ("heads met by the head's check", heads::CLASSES),
     ("sheets", sheets::REFUSALS),
@@ -60,11 +61,12 @@ fn dice_of(seed: u64, round: u64) -> Dice {
     Dice::new(stirred.roll().wrapping_add(round.wrapping_mul(0x9fb2_1c65_1e98_df25)))
 }
 
-/// One round: a run of days, wild steps, clearings, sheets, texts and journals; round 0 begins with every curve number.
+/// One round: a run of days, wild steps, clearings, sheets, texts and journals; round 0 begins with every curve number and delay.
 fn round(asked: &Asked, round: u64, tally: &mut Tally) -> Result<(), String> {
     let dice = &mut dice_of(asked.seed, round);
     if round == 0 {
         steps::curves(tally)?;
+        steps::delays(tally)?;
     }
     let days = 200 + dice.below(1000);
     steps::run(dice, tally, days)?;

@@ -10,7 +10,7 @@ use second::head::DRY;
 use second::made::dice::Dice;
 use second::made::readings::next_reading;
 use second::made::site::Site;
-use second::made::wet::{wet_reading, wet_site};
+use second::made::wet::{metres_down, wet_reading, wet_site};
 use second::numbers::{Card, MOST, Reading};
 
 /// What a step is given, in numbers; the slices may have any length.
@@ -154,6 +154,41 @@ pub fn curves(tally: &mut Tally) -> Result<(), String> {
             }
             let unseen = usize::from(given.amounts[1] == 0);
             tally.meet("every curve number", CURVES[2 * count as usize + unseen]);
+        }
+    }
+    Ok(())
+}
+
+/// What the sweep over every delay must meet.
+pub const DELAYS: &[&str] = &["at its depth", "1 µm above it", "below the last depth"];
+
+/// A site of two cells with so many delay depths a metre apart, the second cell's top a µm below the first's.
+fn site_of_delays(delays: u32) -> Site {
+    let mut card = Card { cells: 2, delays, ..Card::ZEROS };
+    for k in 1..=delays {
+        card.depths[k as usize - 1] = 1_000_000 * k;
+    }
+    let soil = [0, -1].into_iter().flat_map(|top| [top, 1, 1, 0, 1]).collect();
+    Site { card, soil, rows: vec![0; 2 * ROW], usual: Vec::new() }
+}
+
+/// Every delay of every number of delays: rain that sinks in with the water table at a depth and 1 µm above it.
+pub fn delays(tally: &mut Tally) -> Result<(), String> {
+    for delays in 1..=30 {
+        let site = site_of_delays(delays);
+        for (metres, cell) in (1..=delays + 1).flat_map(|metres| [(metres, 0), (metres, 1)]) {
+            let (mut given, head) = (given_by(&site), metres_down(metres));
+            let mut slices = Slices::lend(&given);
+            let reading = Reading { cell, rain: 1000, amc: 2, head, ..Reading::default() };
+            take(&mut given, &mut slices, &reading_numbers(&reading));
+            let at =
+                |what| format!("step, {metres} m down in cell {cell}, {delays} delays\n{what}");
+            let number = both(&mut given, &mut slices, tally).map_err(at)?;
+            if number != 0 {
+                return Err(at(format!("refused with {number}")));
+            }
+            let beside = if metres > delays { 2 } else { cell as usize };
+            tally.meet("every delay", DELAYS[beside]);
         }
     }
     Ok(())

@@ -40,7 +40,7 @@ use core::fmt;
 /// The version of the library; include/waterbook.h says what raises which part.
 pub const VERSION_MAJOR: u32 = 2;
 pub const VERSION_MINOR: u32 = 0;
-pub const VERSION_PATCH: u32 = 0;
+pub const VERSION_PATCH: u32 = 1;
 /// The version as one number.
 pub const VERSION: u32 = 1_000_000 * VERSION_MAJOR + 1_000 * VERSION_MINOR + VERSION_PATCH;
 

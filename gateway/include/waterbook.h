@@ -92,7 +92,7 @@ extern "C" {
  * room or stack stated below grows: build the host again. PATCH rises where none of this is so, as for speed. */
 #define WATERBOOK_VERSION_MAJOR 2
 #define WATERBOOK_VERSION_MINOR 0
-#define WATERBOOK_VERSION_PATCH 0
+#define WATERBOOK_VERSION_PATCH 1
 #define WATERBOOK_VERSION \
     (1000000 * WATERBOOK_VERSION_MAJOR + 1000 * WATERBOOK_VERSION_MINOR + WATERBOOK_VERSION_PATCH)
 

@@ -56,7 +56,7 @@ pub fn storm_runoff(c: i64, rain: i64) -> i64 {
     }
 }
 
-/// 4. Delay k: the largest k whose delay depth is at most d; 0 if none.
+/// 4. Delay k: the largest k whose delay depth is at most d, looked for from the deepest; 0 if none.
 pub fn delay(card: &Card, d: i64) -> usize {
     let reached = |k: &usize| i64::from(card.depths[*k - 1]) <= d;
     (1..=card.delays as usize).rev().find(reached).unwrap_or(0)

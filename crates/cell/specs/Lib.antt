@@ -14,6 +14,8 @@ pub mod QueueLaws
 pub mod RuleLaws
 pub mod StepLaws
 pub mod AnswerLaws
+-- [2] the search that was retired
+pub mod ShallowFirst
 -- what the laws and the code's own contracts lean on
 pub mod Parts
 pub mod Bounds

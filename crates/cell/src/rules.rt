@@ -149,20 +149,19 @@ pub fn storm_on(cn: u64, amc: u32, rain: Water) -> Water
     storm(curve(cn, amc), rain)
 }
 
-// The largest k ≤ m whose delay depth is at most n, or 0.
+// The largest k ≤ m whose delay depth is at most n, or 0: looked for from the deepest, up to the first that is.
 fn reach(depths: [u32; 30], m: usize, n: u64) -> usize
     requires { ⌜ m ≤ 30 ⌝ }
     ensures { λ r. ⌜ r ≡ reachOf depths m n ⌝ }
 {
-    let mut found = 0;
-    let mut k = 0;
-    while k < m {
-        if wide(depths[k]) <= n {
-            found = k + 1;
+    let mut k = m;
+    while 0 < k {
+        if wide(depths[k - 1]) <= n {
+            return k;
         }
-        k += 1;
+        k -= 1;
     }
-    found
+    0
 }
 
 pub fn delay(card: Card, d: Depth) -> usize

@@ -20,49 +20,13 @@ fn two(cells: u32, delays: u32, first: u32, second: u32) {
     show::step(card, &soil, &mut rows, plots::reading());
 }
 
-// A depth in each of the 30 places, one metre below the last.
-fn full() -> [u32; 30] {
-    [
-        1000000,
-        2000000,
-        3000000,
-        4000000,
-        5000000,
-        6000000,
-        7000000,
-        8000000,
-        9000000,
-        10000000,
-        11000000,
-        12000000,
-        13000000,
-        14000000,
-        15000000,
-        16000000,
-        17000000,
-        18000000,
-        19000000,
-        20000000,
-        21000000,
-        22000000,
-        23000000,
-        24000000,
-        25000000,
-        26000000,
-        27000000,
-        28000000,
-        29000000,
-        30000000,
-    ]
-}
-
 // One plot with so many delays and a depth in each of the 30 places, and water in the first and the last slot.
 fn many(delays: u32) {
     show::form(
         b"30 depths, slot 1 at 5, slot 30 at 2000000, delays=#",
         &[delays as u64],
     );
-    let depths = full();
+    let depths = plots::full_depths();
     let card = Card {
         cells: 1,
         delays,

@@ -1,6 +1,7 @@
-// Runs the cases of document 01 that are not proved: its unstarred edges, and both sides of each refusal number; for [1], storms on dry and on wet ground.
+// Runs the cases of document 01 that are not proved: its unstarred edges, and both sides of each refusal number; for [1], storms on dry and on wet ground; for [2], the delay under 30 depths.
 mod card_texts;
 mod cards;
+mod delays;
 mod fields;
 mod grounds;
 mod heads;
@@ -16,6 +17,7 @@ fn main() {
     cards::cases();
     sites::cases();
     soils::cases();
+    delays::cases();
     grounds::cases();
     rows::cases();
     fields::cases();

@@ -14,6 +14,42 @@ pub fn depths(first: u32, second: u32) -> [u32; 30]
     d
 }
 
+// A depth in each of the 30 places, one metre below the last.
+pub fn full_depths() -> [u32; 30] {
+    [
+        1000000,
+        2000000,
+        3000000,
+        4000000,
+        5000000,
+        6000000,
+        7000000,
+        8000000,
+        9000000,
+        10000000,
+        11000000,
+        12000000,
+        13000000,
+        14000000,
+        15000000,
+        16000000,
+        17000000,
+        18000000,
+        19000000,
+        20000000,
+        21000000,
+        22000000,
+        23000000,
+        24000000,
+        25000000,
+        26000000,
+        27000000,
+        28000000,
+        29000000,
+        30000000,
+    ]
+}
+
 // The example's card, for so many plots and with so many delays.
 pub fn card_of(cells: u32, delays: u32) -> Card
     ensures { λ r. ⌜ r ≡ cardOf cells delays ⌝ }

@@ -22,7 +22,7 @@ pub fn wet_site(dice: &mut Dice) -> Site {
 }
 
 /// The head so many whole metres below 0.
-fn metres_down(metres: u32) -> u32 {
+pub fn metres_down(metres: u32) -> u32 {
     (-(metres as f32)).to_bits()
 }
 

@@ -1,7 +1,6 @@
--- `cell::rules::reach` meets its contract. After k turns the loop has found the delay among the first k depths. Assumes nothing.
-use mathlib.Core.Path.{_≡_, refl}
-use mathlib.Core.Logic.{⊎-elim}
-use Prim.Native.Nat.{_-_, _≤_}
+-- `cell::rules::reach` meets its contract. While the loop goes, the delay among the first k depths is the one among all m. Assumes nothing.
+use mathlib.Core.Path.{_≡_, refl, sym, _∙_}
+use Prim.Native.Nat.{_+_, _-_, _≤_}
 use lib.ListN.{length}
 use Rattle.cell.specs.Rules.{reachOf}
 use Rattle.cell.proofs.Loops.{reach-hit, reach-miss}
@@ -11,14 +10,16 @@ use Rattle.cell.proofs.rules.reach.Statement.{statement}
 use Rattle.cell.proofs.rules.reach.Tie as tie
 
 abbrev Inv-loop : tie.InvT-loop
-Inv-loop m n depths found₀ k₀ found k = (k ≤ m) × (length depths ≡ 30) × (found ≡ reachOf depths k n)
+Inv-loop m n depths k₀ k = (k ≤ m) × (length depths ≡ 30) × (reachOf depths k n ≡ reachOf depths m n)
 
 abbrev μ-loop : tie.MeasureT-loop
-μ-loop m n depths found₀ k₀ found k = m - k
+μ-loop m n depths k₀ k = k
 
 loop-holds : tie.Need-loop-holds Inv-loop μ-loop
-unfolding reachOf
 loop-holds c = (omega arith, search needs, refl)
+
+sub-wide : tie.Need-sub-wide Inv-loop μ-loop
+sub-wide c = search needs
 
 mul-wide : tie.Need-mul-wide Inv-loop μ-loop
 mul-wide c = search needs
@@ -29,11 +30,18 @@ array-read-wide c = search needs
 wide-requires : tie.Need-wide-requires Inv-loop μ-loop
 wide-requires c κs = search needs
 
-add-found : tie.Need-add-found Inv-loop μ-loop
-add-found c = search needs
+returns : tie.Need-returns Inv-loop μ-loop
+returns c =
+    let h = c .before .before .before in
+    let ds = h .before .args .t1 in
+    let n = h .before .args .n in
+    let k = h .loop .k in
+    let e : k - 1 + 1 ≡ k = omega arith in
+    let found : reachOf ds k n ≡ k = rw e at (reach-hit ds (k - 1) n (omega arith)) in
+    sym found ∙ h .loop .inv .2
 
-add-k : tie.Need-add-k Inv-loop μ-loop
-add-k c = search needs
+sub-k : tie.Need-sub-k Inv-loop μ-loop
+sub-k c = search needs
 
 loop-less : tie.Need-loop-less Inv-loop μ-loop
 loop-less c = search needs
@@ -42,14 +50,18 @@ loop-again : tie.Need-loop-again Inv-loop μ-loop
 loop-again c =
     let h = c .before .before .before in
     let ds = h .before .args .t1 in
-    let n = h .before .args .n in (
-      omega arith,
-      h .loop .inv .1,
-      ⊎-elim (λ w. cc (reach-hit ds (h .loop .k) n (omega arith))) (λ w. cc (reach-miss ds (h .loop .k) n (omega arith))) (c .if1 .came),
-    )
+    let n = h .before .args .n in
+    let k = h .loop .k in
+    let e : k - 1 + 1 ≡ k = omega arith in
+    let same : reachOf ds k n ≡ reachOf ds (k - 1) n = rw e at (reach-miss ds (k - 1) n (omega arith)) in
+    (omega arith, h .loop .inv .1, sym same ∙ h .loop .inv .2)
 
-returns : tie.Need-returns Inv-loop μ-loop
-returns c = let h = c .before in let e : h .loop .k ≡ h .before .args .m = omega arith in rw e at (h .loop .inv .2)
+returns-2 : tie.Need-returns-2 Inv-loop μ-loop
+unfolding reachOf
+returns-2 c =
+    let h = c .before in
+    let e : h .loop .k ≡ 0 = omega arith in
+    rw e at (h .loop .inv .2)
 
 pub reach-spec : {M : Type 1} → statement M
 reach-spec =
@@ -58,11 +70,12 @@ reach-spec =
     Inv-loop
     μ-loop
     loop-holds
+    sub-wide
     mul-wide
     array-read-wide
     wide-requires
-    add-found
-    add-k
+    returns
+    sub-k
     loop-less
     loop-again
-    returns)
+    returns-2)

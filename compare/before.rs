@@ -1,0 +1,88 @@
+//! The race against an earlier build: `before NAME` times the steps of an earlier library and of this one, both linked
+//! into this program by `tests/race COMMIT`, over the same readings.
+
+#[allow(dead_code)]
+mod courses;
+#[allow(dead_code)]
+mod numbers;
+#[allow(dead_code)]
+mod times;
+#[allow(dead_code)]
+#[path = "../gateway/waterbook.rs"]
+mod waterbook;
+
+use courses::courses;
+use std::process::ExitCode;
+use times::{in_numbers, millions, ratio_cells, sliced_pairs, sliced_steps, step_pairs};
+
+/// A step of the libraries as C calls it: each slice a pointer and a count.
+macro_rules! step_of {
+    ($name:ident, $symbol:ident) => {
+        fn $name(
+            card: &[u32],
+            soil: &[i64],
+            rows: &mut [u32],
+            reading: &[u32],
+            amounts: &mut [i64],
+        ) -> u32 {
+            unsafe extern "C" {
+                fn $symbol(
+                    card: *const u32,
+                    cards: usize,
+                    soil: *const i64,
+                    soils: usize,
+                    rows: *mut u32,
+                    row_count: usize,
+                    reading: *const u32,
+                    readings: usize,
+                    amounts: *mut i64,
+                    amount_count: usize,
+                ) -> u32;
+            }
+            // SAFETY: each pointer comes with the length of its slice, and none is kept.
+            unsafe {
+                $symbol(
+                    card.as_ptr(),
+                    card.len(),
+                    soil.as_ptr(),
+                    soil.len(),
+                    rows.as_mut_ptr(),
+                    rows.len(),
+                    reading.as_ptr(),
+                    reading.len(),
+                    amounts.as_mut_ptr(),
+                    amounts.len(),
+                )
+            }
+        }
+    };
+}
+step_of!(before, before_step);
+step_of!(now, now_step);
+
+fn main() -> ExitCode {
+    let words: Vec<String> = std::env::args().skip(1).collect();
+    let [commit] = &words[..] else {
+        eprintln!("usage: before NAME");
+        return ExitCode::from(2);
+    };
+    println!(
+        "\nSteps of the library of {commit} (before) and of this one (now), 4 cells, in millions per second;"
+    );
+    println!("the last two ratios are to the second program:\n");
+    println!(
+        "| M | table | readings | before | now | now to before | spread of the ratio | before to second | now to second |"
+    );
+    println!("|---|---|---|---|---|---|---|---|---|");
+    for (name, course) in courses() {
+        let readings = in_numbers(&course);
+        let [was, is] = [before, now].map(|step| sliced_steps(step, &course, &readings).1);
+        assert_eq!(was, is, "the two libraries answer alike");
+        let pairs = sliced_pairs(now, before, &course);
+        let ratio = ratio_cells(&pairs.ratio);
+        let [was, is] = [before, now].map(|step| step_pairs(step, &course).ratio[1]);
+        let (old, new) = (millions(pairs.other), millions(pairs.one));
+        println!("| {name} | {old:.2} | {new:.2} | {ratio} | {was:.2} | {is:.2} |");
+    }
+    ExitCode::SUCCESS
+}
