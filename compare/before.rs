@@ -69,7 +69,9 @@ fn main() -> ExitCode {
     println!(
         "\nSteps of the library of {commit} (before) and of this one (now), 4 cells, in millions per second;"
     );
-    println!("the last two ratios are to the second program:\n");
+    println!(
+        "a ratio of A to B above 1 means that A is faster; the last two are to the second program:\n"
+    );
     println!(
         "| M | table | readings | before | now | now to before | spread of the ratio | before to second | now to second |"
     );

@@ -143,7 +143,7 @@ pub fn refused_with(number: u32, delays: u32) -> Course {
     course
 }
 
-/// The courses of a table over M: delays, where the water table stands, what readings. Without delays none is between two.
+/// A course for each line of a printed table: M, where the water table stands, what readings. With M = 0 there is no middle.
 pub fn courses() -> Vec<(String, Course)> {
     let mut courses = Vec::new();
     for delays in [0, 5, 30] {

@@ -187,6 +187,11 @@ pub fn delays(tally: &mut Tally) -> Result<(), String> {
             if number != 0 {
                 return Err(at(format!("refused with {number}")));
             }
+            let slots = &given.rows[ROW * cell as usize + 2..][..30];
+            let slot = slots.iter().position(|&water| water > 0).map_or(0, |place| place + 1);
+            if slot != (metres - cell).min(delays) as usize {
+                return Err(at(format!("the rain is in slot {slot}")));
+            }
             let beside = if metres > delays { 2 } else { cell as usize };
             tally.meet("every delay", DELAYS[beside]);
         }

@@ -3,13 +3,12 @@
 use crate::courses::{Course, READINGS, TIMES};
 use crate::numbers::{amounts_numbers, card_numbers, card_of, reading_numbers, reading_of};
 use crate::waterbook::raw;
-use std::hint::black_box;
 use std::time::Instant;
 
 /// Pairs of times taken for each line of a table.
 pub const PAIRS: usize = 61;
 
-/// The seconds that steps over slices take for a course, and the sum of their recharge and numbers.
+/// The seconds that steps over slices take for a course, and the sum of their recharge and numbers and of the rows then.
 pub fn sliced_steps(step: Step, course: &Course, readings: &[[u32; 10]]) -> (f64, i64) {
     let (card, soil) = (card_numbers(&course.site.card), &course.site.soil);
     let (mut sum, mut seconds) = (0, 0.0);
@@ -22,12 +21,12 @@ pub fn sliced_steps(step: Step, course: &Course, readings: &[[u32; 10]]) -> (f64
             sum += i64::from(number) + amounts[8];
         }
         seconds += start.elapsed().as_secs_f64();
-        black_box(&rows);
+        sum += rows.iter().map(|number| i64::from(*number)).sum::<i64>();
     }
     (seconds, sum)
 }
 
-/// The seconds that the second's steps of a course take, and the sum of their recharge and numbers.
+/// The seconds that the second's steps of a course take, and the same sum.
 pub fn second_steps(course: &Course) -> (f64, i64) {
     let (card, soil) = (&course.site.card, &course.site.soil);
     let (mut sum, mut seconds) = (0, 0.0);
@@ -39,7 +38,7 @@ pub fn second_steps(course: &Course) -> (f64, i64) {
             sum += i64::from(number) + amounts.recharge;
         }
         seconds += start.elapsed().as_secs_f64();
-        black_box(&rows);
+        sum += rows.iter().map(|number| i64::from(*number)).sum::<i64>();
     }
     (seconds, sum)
 }
@@ -78,16 +77,16 @@ pub struct Pairs {
 pub fn pairs(count: usize, mut one: impl FnMut() -> f64, mut other: impl FnMut() -> f64) -> Pairs {
     let (mut ones, mut others, mut ratios) = (Vec::new(), Vec::new(), Vec::new());
     for pair in 0..count {
-        let (first, second) = if pair % 2 == 0 {
-            let first = one();
-            (first, other())
+        let (of_one, of_other) = if pair % 2 == 0 {
+            let of_one = one();
+            (of_one, other())
         } else {
-            let second = other();
-            (one(), second)
+            let of_other = other();
+            (one(), of_other)
         };
-        ones.push(first);
-        others.push(second);
-        ratios.push(second / first);
+        ones.push(of_one);
+        others.push(of_other);
+        ratios.push(of_other / of_one);
     }
     Pairs { one: quartiles(ones)[1], other: quartiles(others)[1], ratio: quartiles(ratios) }
 }

@@ -13,13 +13,13 @@ unfoldable pub shallowFirst : List ℕ → ℕ → ℕ → ℕ → ℕ → ℕ
 shallowFirst depths n zero k found = found
 shallowFirst depths n (suc left) k found = shallowFirst depths n left (suc k) (cond (leb (getD depths k 0) n) (suc k) found)
 
--- after k depths it has found the delay among them
+-- from the delay among the first k depths it comes to the delay among them all
 from-place : (depths : List ℕ) (n left k : ℕ) → shallowFirst depths n left k (reachOf depths k n) ≡ reachOf depths (left + k) n
 unfolding shallowFirst reachOf
 from-place depths n zero k = let e : 0 + k ≡ k = omega arith in rw e
 from-place depths n (suc left) k = let e : suc left + k ≡ left + suc k = omega arith in rw e (from-place depths n left (suc k))
 
--- so from the shallow end or from the deep end, rising or not, the delay is the same
+-- so it finds what the search from the deep end does by its contract: rising or not, the delay is the same
 pub same-delay : (depths : List ℕ) (m n : ℕ) → shallowFirst depths n m 0 0 ≡ reachOf depths m n
 unfolding reachOf
 same-delay depths m n = let e : m + 0 ≡ m = omega arith in rw e at (from-place depths n m 0)

@@ -1,5 +1,5 @@
 -- The plot of document 01's example. Definitions only.
-use Prim.Native.Nat.{ℕ}
+use Prim.Native.Nat.{ℕ, zero, suc, _+_}
 use mathlib.Core.List.{List, [], _∷_}
 use lib.ListN.{replicate}
 use lib.IntN.{ℤ, pos}
@@ -10,6 +10,11 @@ use Rattle.cell.specs.declared.Reading.{Reading}
 -- two delay depths, and 0 in the 28 places after them
 abbrev pub depthsOf : ℕ → ℕ → List ℕ
 depthsOf first second = first ∷ second ∷ replicate 28 0
+
+-- so many depths, each a metre below the last
+abbrev pub metreByMetre : ℕ → ℕ → List ℕ
+metreByMetre zero depth = []
+metreByMetre (suc n) depth = depth ∷ metreByMetre n (depth + 1000000)
 
 -- the card, for so many plots and with so many delays
 abbrev pub cardOf : ℕ → ℕ → Card

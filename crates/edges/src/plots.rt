@@ -1,6 +1,6 @@
 // The plot of document 01's example, which each case changes in one place.
 ghost use mathlib.Core.Path.{_≡_};
-ghost use Rattle.edges.specs.Plots.{depthsOf, cardOf, bareCard, soilNumbers, readingAt};
+ghost use Rattle.edges.specs.Plots.{depthsOf, metreByMetre, cardOf, bareCard, soilNumbers, readingAt};
 use cell::Card;
 use cell::Reading;
 
@@ -15,7 +15,9 @@ pub fn depths(first: u32, second: u32) -> [u32; 30]
 }
 
 // A depth in each of the 30 places, one metre below the last.
-pub fn full_depths() -> [u32; 30] {
+pub fn full_depths() -> [u32; 30]
+    ensures { λ r. ⌜ r ≡ metreByMetre 30 1000000 ⌝ }
+{
     [
         1000000,
         2000000,
