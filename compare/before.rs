@@ -13,52 +13,43 @@ mod waterbook;
 
 use courses::courses;
 use std::process::ExitCode;
-use times::{in_numbers, millions, ratio_cells, sliced_pairs, sliced_steps, step_pairs};
+use times::{Step, in_numbers, millions, ratio_cells, sliced_pairs, sliced_steps, step_pairs};
 
-/// A step of the libraries as C calls it: each slice a pointer and a count.
+/// A library's step by the name that it is linked under.
 macro_rules! step_of {
-    ($name:ident, $symbol:ident) => {
-        fn $name(
-            card: &[u32],
-            soil: &[i64],
-            rows: &mut [u32],
-            reading: &[u32],
-            amounts: &mut [i64],
-        ) -> u32 {
-            unsafe extern "C" {
-                fn $symbol(
-                    card: *const u32,
-                    cards: usize,
-                    soil: *const i64,
-                    soils: usize,
-                    rows: *mut u32,
-                    row_count: usize,
-                    reading: *const u32,
-                    readings: usize,
-                    amounts: *mut i64,
-                    amount_count: usize,
-                ) -> u32;
-            }
-            // SAFETY: each pointer comes with the length of its slice, and none is kept.
-            unsafe {
-                $symbol(
-                    card.as_ptr(),
-                    card.len(),
-                    soil.as_ptr(),
-                    soil.len(),
-                    rows.as_mut_ptr(),
-                    rows.len(),
-                    reading.as_ptr(),
-                    reading.len(),
-                    amounts.as_mut_ptr(),
-                    amounts.len(),
-                )
-            }
+    ($symbol:ident) => {{
+        unsafe extern "C" {
+            fn $symbol(
+                card: *const u32,
+                cards: usize,
+                soil: *const i64,
+                soils: usize,
+                rows: *mut u32,
+                row_numbers: usize,
+                reading: *const u32,
+                readings: usize,
+                amounts: *mut i64,
+                amount_numbers: usize,
+            ) -> u32;
         }
-    };
+        // SAFETY: each pointer comes with the length of its slice, and none is kept.
+        let step: Step = |card, soil, rows, reading, amounts| unsafe {
+            $symbol(
+                card.as_ptr(),
+                card.len(),
+                soil.as_ptr(),
+                soil.len(),
+                rows.as_mut_ptr(),
+                rows.len(),
+                reading.as_ptr(),
+                reading.len(),
+                amounts.as_mut_ptr(),
+                amounts.len(),
+            )
+        };
+        step
+    }};
 }
-step_of!(before, before_step);
-step_of!(now, now_step);
 
 fn main() -> ExitCode {
     let words: Vec<String> = std::env::args().skip(1).collect();
@@ -66,6 +57,7 @@ fn main() -> ExitCode {
         eprintln!("usage: before NAME");
         return ExitCode::from(2);
     };
+    let (before, now) = (step_of!(before_step), step_of!(now_step));
     println!(
         "\nSteps of the library of {commit} (before) and of this one (now), 4 cells, in millions per second;"
     );
