@@ -1,4 +1,4 @@
-//! Which branches of the rules an accepted step went through, and what a refused one was refused for.
+//! Which branches of the rules an accepted step went through.
 
 use crate::heads;
 use crate::tally::Tally;
@@ -59,55 +59,6 @@ pub const BRANCHES: &[&str] = &[
     "11 recharge 0",
     "11 recharge below 0",
     "11 recharge, septic and a delay",
-];
-
-/// What refused steps must be refused for.
-pub const REFUSALS: &[&str] = &[
-    "1 cells",
-    "1 delays",
-    "1 depth 0",
-    "1 depth too large",
-    "1 depths equal",
-    "1 depths falling",
-    "1 unused place",
-    "2 soil short",
-    "2 soil long",
-    "2 rows short",
-    "2 rows long",
-    "3 cell",
-    "4 top low",
-    "4 top high",
-    "4 etdepth low",
-    "4 etdepth high",
-    "4 vadpor low",
-    "4 vadpor high",
-    "4 leak low",
-    "4 leak high",
-    "4 cn low",
-    "4 cn high",
-    "5 life",
-    "5 next count",
-    "5 slot above its limit",
-    "5 slot above M",
-    "6 life lower",
-    "6 count lower",
-    "7 count higher",
-    "7 life higher and count not 0",
-    "8 life",
-    "8 count",
-    "8 rain",
-    "8 irrig",
-    "8 septic",
-    "8 etmin",
-    "8 pet",
-    "8 etmin above pet",
-    "8 amc 0",
-    "8 amc above 3",
-    "9 head",
-    "10 head",
-    "255 card",
-    "255 reading",
-    "255 amounts",
 ];
 
 /// A step's card, the named cell's soil numbers, its row after the step, the reading and the answer.
@@ -266,116 +217,6 @@ fn recharge(answer: &Amounts) -> &'static str {
         0 => "11 recharge 0",
         r if r < 0 => "11 recharge below 0",
         _ => "11 recharge above 0",
-    }
-}
-
-/// Note what a refused step was refused for; the slices are as they were lent.
-pub fn refused(
-    number: u32,
-    card: &Card,
-    soil: &[i64],
-    rows: &[u32],
-    r: &Reading,
-    tally: &mut Tally,
-) {
-    let cell = r.cell as usize;
-    let name = match number {
-        1 => card_fault(card),
-        2 => length_fault(card, soil, rows),
-        3 => "3 cell",
-        4 => soil_fault(&soil[5 * cell..5 * cell + 5]),
-        5 => row_fault(&rows[32 * cell..32 * cell + 32], card.delays),
-        6 if r.life < rows[32 * cell] => "6 life lower",
-        6 => "6 count lower",
-        7 if r.life > rows[32 * cell] => "7 life higher and count not 0",
-        7 => "7 count higher",
-        8 => field_fault(r),
-        9 => "9 head",
-        _ => "10 head",
-    };
-    tally.meet("refused for", name);
-    if number >= 9 {
-        tally.meet("heads met by the head's check", heads::class(r.head));
-    }
-}
-
-fn card_fault(card: &Card) -> &'static str {
-    if !(1..=256).contains(&card.cells) {
-        return "1 cells";
-    }
-    if card.delays > 30 {
-        return "1 delays";
-    }
-    let used = card.used();
-    if used.contains(&0) {
-        "1 depth 0"
-    } else if used.iter().any(|depth| *depth > 1_000_000_000) {
-        "1 depth too large"
-    } else if used.windows(2).any(|two| two[0] > two[1]) {
-        "1 depths falling"
-    } else if used.windows(2).any(|two| two[0] == two[1]) {
-        "1 depths equal"
-    } else {
-        "1 unused place"
-    }
-}
-
-fn length_fault(card: &Card, soil: &[i64], rows: &[u32]) -> &'static str {
-    let cells = card.cells as usize;
-    match (soil.len(), rows.len()) {
-        (length, _) if length < 5 * cells => "2 soil short",
-        (length, _) if length > 5 * cells => "2 soil long",
-        (_, length) if length < 32 * cells => "2 rows short",
-        _ => "2 rows long",
-    }
-}
-
-fn soil_fault(soil: &[i64]) -> &'static str {
-    const RANGES: [(i64, i64, &str, &str); 5] = [
-        (-10_000_000_000, 10_000_000_000, "4 top low", "4 top high"),
-        (1, 100_000_000, "4 etdepth low", "4 etdepth high"),
-        (1, 1000, "4 vadpor low", "4 vadpor high"),
-        (0, 1_000_000, "4 leak low", "4 leak high"),
-        (1, 100, "4 cn low", "4 cn high"),
-    ];
-    for (number, (low, high, below, above)) in soil.iter().zip(RANGES) {
-        if *number < low {
-            return below;
-        }
-        if *number > high {
-            return above;
-        }
-    }
-    "no soil number is out of range"
-}
-
-fn row_fault(row: &[u32], delays: u32) -> &'static str {
-    if row[0] > 65_535 {
-        "5 life"
-    } else if row[1] > 1_000_000 {
-        "5 next count"
-    } else if row[2 + delays as usize..].iter().any(|slot| *slot > 0) {
-        "5 slot above M"
-    } else {
-        "5 slot above its limit"
-    }
-}
-
-fn field_fault(r: &Reading) -> &'static str {
-    let fields = [
-        (r.life, 65_535, "8 life"),
-        (r.count, 999_999, "8 count"),
-        (r.rain, 1_000_000, "8 rain"),
-        (r.irrig, 1_000_000, "8 irrig"),
-        (r.septic, 1_000_000, "8 septic"),
-        (r.etmin, 1_000_000, "8 etmin"),
-        (r.pet, 1_000_000, "8 pet"),
-        (r.amc, 3, "8 amc above 3"),
-    ];
-    match fields.iter().find(|(field, most, _)| field > most) {
-        Some((_, _, name)) => name,
-        None if r.amc == 0 => "8 amc 0",
-        None => "8 etmin above pet",
     }
 }
 

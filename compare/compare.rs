@@ -2,20 +2,25 @@
 //! and to the second program, and holds all that the one answers to the other's answers.
 
 mod branches;
+mod entries;
+mod given;
 mod heads;
 mod journals;
 mod lent;
 mod lines;
 mod numbers;
+mod refusals;
 mod sheets;
 mod steps;
 mod tally;
 mod texts;
+mod voids;
 #[allow(dead_code)]
 #[path = "../gateway/waterbook.rs"]
 mod waterbook;
 mod wild;
 
+use given::Call;
 use second::made::dice::Dice;
 use std::process::ExitCode;
 use tally::Tally;
@@ -25,10 +30,16 @@ const MUST: &[(&str, &[&str])] = &[
     ("branches", branches::BRANCHES),
     ("every curve number", steps::CURVES),
     ("every delay", steps::DELAYS),
-    ("refused for", branches::REFUSALS),
+    ("every full queue", voids::QUEUES),
+    ("refused for", refusals::TURNS),
+    ("refused for its figures", refusals::FIGURES),
+    ("voids", voids::VOIDS),
+    ("voids refused for", refusals::TURNS),
     ("heads met by the head's check", heads::CLASSES),
     ("sheets", sheets::REFUSALS),
     ("texts", texts::TEXTS),
+    ("reading lines", entries::LINES),
+    ("void lines", entries::LINES),
     ("answer lines", lines::ANSWERS),
     ("sheet lines", lines::SHEETS),
     ("journals", journals::JOURNALS),
@@ -61,22 +72,23 @@ fn dice_of(seed: u64, round: u64) -> Dice {
     Dice::new(stirred.roll().wrapping_add(round.wrapping_mul(0x9fb2_1c65_1e98_df25)))
 }
 
-/// One round: a run of days, wild steps, clearings, sheets, texts and journals; round 0 begins with every curve number and delay.
+/// One round: days, wild steps and voids, clearings, sheets, texts and journals; round 0 begins with the sweeps.
 fn round(asked: &Asked, round: u64, tally: &mut Tally) -> Result<(), String> {
     let dice = &mut dice_of(asked.seed, round);
     if round == 0 {
         steps::curves(tally)?;
         steps::delays(tally)?;
+        voids::queues(tally)?;
     }
     let days = 200 + dice.below(1000);
     steps::run(dice, tally, days)?;
-    steps::wild_steps(dice, tally, 100)?;
-    steps::wild_steps(dice, tally, 100)?;
+    steps::wild_steps(dice, tally, Call::Step, 100)?;
+    steps::wild_steps(dice, tally, Call::Step, 100)?;
+    steps::wild_steps(dice, tally, Call::Void, 100)?;
     steps::clearings(dice, tally, 10)?;
     sheets::wild_sheets(dice, tally, 200)?;
     for _ in 0..40 {
-        texts::read_reading(dice, tally)?;
-        texts::write_reading(dice, tally)?;
+        entries::read_and_write(dice, tally)?;
         texts::read_card(dice, tally)?;
         texts::write_card(dice, tally)?;
     }

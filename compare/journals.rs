@@ -3,10 +3,11 @@
 use crate::lent::{Lent, equal, same};
 use crate::tally::Tally;
 use crate::texts::shown;
-use crate::waterbook::{book_room, raw};
+use crate::waterbook::{CELLS, SOIL, book_room, raw};
 use second::journal::waterbook as second_book;
 use second::made::dice::Dice;
 use second::made::{Kind, journal_of_kind};
+use second::text::read_card;
 use std::io::{Read, Write};
 use std::process::{Command, Stdio};
 use std::time::Duration;
@@ -22,9 +23,13 @@ pub const JOURNALS: &[&str] = &[
     "near the longest, or longer",
     "book with its sheet",
     "stopped at the card's lines",
-    "stopped at a reading",
+    "stopped below the card",
     "too long",
     "clearing refused",
+    "void in a book, nothing released",
+    "void in a book, water released",
+    "void in a book, refused",
+    "void at which a book stops",
     "buffer with exactly the room",
     "buffer with more room",
     "buffer without the room",
@@ -57,7 +62,26 @@ fn ending(book: &[u8]) -> &'static str {
     } else if text.lines().count() == 1 {
         "stopped at the card's lines"
     } else {
-        "stopped at a reading"
+        "stopped below the card"
+    }
+}
+
+/// Meet what the voids of a journal came to; the lines after the card have a line of the book each.
+fn meet_voids(journal: &[u8], book: &[u8], tally: &mut Tally) {
+    let (card, _) = read_card(journal, &mut [0; SOIL * CELLS]);
+    if card.number != 0 || book == b"code=12 line=0\n" || book == b"code=1\n" {
+        return;
+    }
+    for (line, answer) in lines(&journal[card.bytes..]).into_iter().zip(lines(book)) {
+        let has = |word: &[u8]| answer.split(|byte| *byte == b' ').any(|each| each == word);
+        let name = match has(b"code=0") {
+            _ if !line.starts_with(b"void") => continue,
+            true if has(b"release=0") => "void in a book, nothing released",
+            true => "void in a book, water released",
+            false if has(b"code=12") => "void at which a book stops",
+            false => "void in a book, refused",
+        };
+        tally.meet("journals", name);
     }
 }
 
@@ -77,6 +101,7 @@ fn made(seed: u64, place: u64, tally: &mut Tally) -> (Vec<u8>, Vec<u8>) {
     tally.meet("journals", kind_name(kind));
     tally.meet("journals", ending(&book));
     meet_numbers(&book, tally);
+    meet_voids(&journal, &book, tally);
     (journal, book)
 }
 

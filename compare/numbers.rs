@@ -1,7 +1,7 @@
 //! The second program's records as the library's numbers, and back.
 
-use crate::waterbook::{AMOUNTS, CARD, READING, SHEET};
-use second::numbers::{Amounts, Card, Reading};
+use crate::waterbook::{AMOUNTS, CARD, NOTICE, READING, SHEET};
+use second::numbers::{Amounts, Card, Reading, Void};
 use second::sheet::Sheet;
 
 /// A card as 32 numbers.
@@ -29,6 +29,16 @@ pub fn reading_of(n: &[u32]) -> Reading {
     let (cell, life, count, rain, irrig) = (n[0], n[1], n[2], n[3], n[4]);
     let (septic, etmin, pet, amc, head) = (n[5], n[6], n[7], n[8], n[9]);
     Reading { cell, life, count, rain, irrig, septic, etmin, pet, amc, head }
+}
+
+/// A void as three numbers.
+pub fn void_numbers(v: &Void) -> [u32; NOTICE] {
+    [v.cell, v.life, v.count]
+}
+
+/// The void of three numbers.
+pub fn void_of(n: &[u32]) -> Void {
+    Void { cell: n[0], life: n[1], count: n[2] }
 }
 
 /// Amounts as ten numbers.

@@ -1,125 +1,17 @@
-//! Steps, clearings and sheets: the proved code through the library against the second program.
+//! Steps, voids, clearings and sheets: the proved code through the library against the second program.
 
-use crate::branches::{Met, accepted, refused};
+use crate::given::{Call, Given, Slices, both, take};
 use crate::lent::{Lent, equal, same};
-use crate::numbers::{amounts_numbers, card_numbers, card_of, reading_numbers, reading_of};
+use crate::numbers::{card_numbers, card_of, reading_numbers};
 use crate::tally::Tally;
-use crate::waterbook::{AMOUNTS, CARD, NOT_THE_COUNT, READING, ROW, SOIL, raw};
+use crate::waterbook::{AMOUNTS, CARD, NOT_THE_COUNT, ROW, SOIL, raw};
 use crate::{heads, sheets, wild};
 use second::head::DRY;
 use second::made::dice::Dice;
 use second::made::readings::next_reading;
 use second::made::site::Site;
 use second::made::wet::{metres_down, wet_reading, wet_site};
-use second::numbers::{Card, MOST, Reading};
-
-/// What a step is given, in numbers; the slices may have any length.
-#[derive(Clone, Debug)]
-struct Given {
-    card: Vec<u32>,
-    soil: Vec<i64>,
-    rows: Vec<u32>,
-    reading: Vec<u32>,
-    amounts: Vec<i64>,
-}
-
-/// The slices lent to the library for a run of steps.
-struct Slices {
-    card: Lent<u32>,
-    soil: Lent<i64>,
-    rows: Lent<u32>,
-    reading: Lent<u32>,
-    amounts: Lent<i64>,
-}
-
-impl Slices {
-    /// Slices that hold what is given.
-    fn lend(given: &Given) -> Slices {
-        Slices {
-            card: Lent::new(&given.card, 0xa5a5_a5a5),
-            soil: Lent::new(&given.soil, -77),
-            rows: Lent::new(&given.rows, 0x5a5a_5a5a),
-            reading: Lent::new(&given.reading, 0xc3c3_c3c3),
-            amounts: Lent::new(&given.amounts, -99),
-        }
-    }
-
-    /// The library's step.
-    fn step(&mut self) -> u32 {
-        let (card, soil, reading) = (self.card.held(), self.soil.held(), self.reading.held());
-        raw::step(card, soil, self.rows.slice(), reading, self.amounts.slice())
-    }
-
-    /// All slices against what is given, and the amounts against the second's.
-    fn same(&self, given: &Given) -> Result<(), String> {
-        same("amounts", &self.amounts, &given.amounts)?;
-        same("rows", &self.rows, &given.rows)?;
-        same("card", &self.card, &given.card)?;
-        same("soil", &self.soil, &given.soil)?;
-        same("reading", &self.reading, &given.reading)
-    }
-}
-
-/// The second's step on what is given: its number; rows and amounts as they are after it.
-fn second_step(given: &mut Given, tally: &mut Tally) -> u32 {
-    if let Some(name) = wrong_count(given) {
-        tally.meet("refused for", name);
-        return NOT_THE_COUNT;
-    }
-    let (card, reading) = (card_of(&given.card), reading_of(&given.reading));
-    let (number, answer) = second::step::step(&card, &given.soil, &mut given.rows, &reading);
-    given.amounts.copy_from_slice(&amounts_numbers(&answer));
-    if number == 0 {
-        let cell = reading.cell as usize;
-        let (soil, after) = (&given.soil[SOIL * cell..], &given.rows[ROW * cell..]);
-        let (card, reading, answer) = (&card, &reading, &answer);
-        accepted(&Met { card, soil, after, reading, answer }, tally);
-    } else {
-        refused(number, &card, &given.soil, &given.rows, &reading, tally);
-    }
-    number
-}
-
-/// The first slice that has not its count of numbers, if one has not.
-fn wrong_count(given: &Given) -> Option<&'static str> {
-    if given.card.len() != CARD {
-        Some("255 card")
-    } else if given.reading.len() != READING {
-        Some("255 reading")
-    } else if given.amounts.len() != AMOUNTS {
-        Some("255 amounts")
-    } else {
-        None
-    }
-}
-
-/// One step by both, held to each other; the number and the second's amounts.
-fn both(given: &mut Given, slices: &mut Slices, tally: &mut Tally) -> Result<u32, String> {
-    let number = second_step(given, tally);
-    let answered = slices.step();
-    tally.steps += 1;
-    tally.number("step", number);
-    equal("number", answered, number)?;
-    slices.same(given)?;
-    Ok(number)
-}
-
-/// What a site gives, with amounts that hold something else before the step.
-fn given_by(site: &Site) -> Given {
-    Given {
-        card: card_numbers(&site.card).to_vec(),
-        soil: site.soil.clone(),
-        rows: site.rows.clone(),
-        reading: vec![0; READING],
-        amounts: vec![-1; AMOUNTS],
-    }
-}
-
-/// Put a reading into what is given and into the lent slice.
-fn take(given: &mut Given, slices: &mut Slices, reading: &[u32]) {
-    given.reading.copy_from_slice(reading);
-    slices.reading.slice().copy_from_slice(reading);
-}
+use second::numbers::{Card, Entry, MOST, Reading};
 
 /// What the sweep over every curve number must meet.
 pub const CURVES: &[&str] = &[
@@ -140,13 +32,13 @@ fn site_of_curves() -> Site {
 
 /// Every curve number on dry, normal and wet ground: with the most rain and a dry head the runoff is the storm's.
 pub fn curves(tally: &mut Tally) -> Result<(), String> {
-    let mut given = given_by(&site_of_curves());
+    let mut given = Given::by(&site_of_curves());
     let mut slices = Slices::lend(&given);
     for amc in 1..=3 {
         for cell in 0..100 {
             let (count, cn) = (amc - 1, cell + 1);
             let reading = Reading { cell, count, rain: MOST, amc, head: DRY, ..Reading::default() };
-            take(&mut given, &mut slices, &reading_numbers(&reading));
+            take(&mut given, &mut slices, &Entry::Reading(reading));
             let at = |what| format!("step, most rain at cn {cn}, amc {amc}\n{what}");
             let number = both(&mut given, &mut slices, tally).map_err(at)?;
             if number != 0 {
@@ -163,7 +55,7 @@ pub fn curves(tally: &mut Tally) -> Result<(), String> {
 pub const DELAYS: &[&str] = &["at its depth", "1 µm above it", "below the last depth"];
 
 /// A site of two cells with so many delay depths a metre apart, the second cell's top a µm below the first's.
-fn site_of_delays(delays: u32) -> Site {
+pub fn site_of_delays(delays: u32) -> Site {
     let mut card = Card { cells: 2, delays, ..Card::ZEROS };
     for k in 1..=delays {
         card.depths[k as usize - 1] = 1_000_000 * k;
@@ -177,10 +69,10 @@ pub fn delays(tally: &mut Tally) -> Result<(), String> {
     for delays in 1..=30 {
         let site = site_of_delays(delays);
         for (metres, cell) in (1..=delays + 1).flat_map(|metres| [(metres, 0), (metres, 1)]) {
-            let (mut given, head) = (given_by(&site), metres_down(metres));
+            let (mut given, head) = (Given::by(&site), metres_down(metres));
             let mut slices = Slices::lend(&given);
             let reading = Reading { cell, rain: 1000, amc: 2, head, ..Reading::default() };
-            take(&mut given, &mut slices, &reading_numbers(&reading));
+            take(&mut given, &mut slices, &Entry::Reading(reading));
             let at =
                 |what| format!("step, {metres} m down in cell {cell}, {delays} delays\n{what}");
             let number = both(&mut given, &mut slices, tally).map_err(at)?;
@@ -199,12 +91,12 @@ pub fn delays(tally: &mut Tally) -> Result<(), String> {
     Ok(())
 }
 
-/// Many days of a site, each answer added to a sheet on both sides.
+/// Many days of a site, voids among them, each answer added to a sheet on both sides.
 pub fn run(dice: &mut Dice, tally: &mut Tally, days: u64) -> Result<(), String> {
     let wet = dice.once_in(5);
     let mut site = if wet { wet_site(dice) } else { Site::made(dice) };
-    let weather = dice.pick(&[4, 12, 1000]);
-    let mut given = given_by(&site);
+    let (weather, rarity) = (dice.pick(&[4, 12, 1000]), dice.pick(&[4, 20, 20, 1000]));
+    let mut given = Given::by(&site);
     let mut slices = Slices::lend(&given);
     let mut sums = sheets::Pair::empty();
     for day in 0..days {
@@ -212,28 +104,29 @@ pub fn run(dice: &mut Dice, tally: &mut Tally, days: u64) -> Result<(), String> 
             // The delay falls by one each day, so that one slot gathers all.
             let delay =
                 (u64::from(site.card.delays) - day % u64::from(site.card.delays + 1)) as u32;
-            reading_numbers(&wet_reading(&site, dice, delay, weather))
+            wet_reading(&site, dice, delay, weather)
         } else {
-            reading_numbers(&next_reading(&site, dice))
+            next_reading(&site, dice)
         };
         if dice.once_in(12) {
-            reading[9] = heads::made(dice);
+            reading.head = heads::made(dice);
         }
-        take(&mut given, &mut slices, &reading);
-        let number = both(&mut given, &mut slices, tally).map_err(|what| {
-            format!("step, day {day} of a run\n{what}\n{}", told(&site, &reading))
-        })?;
+        let void = dice.once_in(rarity);
+        let entry = if void { Entry::Void(reading.turn()) } else { Entry::Reading(reading) };
+        take(&mut given, &mut slices, &entry);
+        let number = both(&mut given, &mut slices, tally)
+            .map_err(|what| format!("day {day} of a run\n{what}\n{}", told(&site, &entry)))?;
         sums.add(number, &given.amounts, tally)?;
         site.rows.copy_from_slice(&given.rows);
     }
     Ok(())
 }
 
-/// What a step of a run was given, in words.
-fn told(site: &Site, reading: &[u32]) -> String {
-    let cell = reading[0] as usize;
+/// What a day of a run was given, in words.
+fn told(site: &Site, entry: &Entry) -> String {
+    let cell = entry.turn().cell as usize;
     let (plot, row) = (site.soil.chunks(SOIL).nth(cell), site.rows.chunks(ROW).nth(cell));
-    format!("card {:?}\nsoil {plot:?}\nrow {row:?}\nreading {reading:?}", site.card)
+    format!("card {:?}\nsoil {plot:?}\nrow {row:?}\n{entry:?}", site.card)
 }
 
 /// A site of few cells.
@@ -246,31 +139,39 @@ pub fn small_site(dice: &mut Dice) -> Site {
     }
 }
 
-/// Steps with wild numbers and slices of any length.
-pub fn wild_steps(dice: &mut Dice, tally: &mut Tally, times: u64) -> Result<(), String> {
+/// Steps or voids with wild numbers and slices of any length.
+pub fn wild_steps(
+    dice: &mut Dice,
+    tally: &mut Tally,
+    call: Call,
+    times: u64,
+) -> Result<(), String> {
     let mut site = small_site(dice);
     for _ in 0..times {
         let cell = dice.place(site.card.cells as usize);
         wild::fair_row(dice, &mut site.rows[ROW * cell..ROW * (cell + 1)], site.card.delays);
-        let mut given = given_by(&site);
-        given.reading = reading_numbers(&next_reading(&site, dice)).to_vec();
+        let mut given = Given::by(&site);
+        // A reading's first numbers are its turn, and all that a void has.
+        given.call = call;
+        given.entry = reading_numbers(&next_reading(&site, dice))[..call.width()].to_vec();
         given.amounts.fill_with(|| wild::any_signed(dice));
         for _ in 0..dice.pick(&[0, 1, 1, 1, 2, 3]) {
             wilder(dice, &mut given);
         }
         let asked = given.clone();
         let mut slices = Slices::lend(&given);
-        both(&mut given, &mut slices, tally).map_err(|what| format!("step\n{what}\n{asked:?}"))?;
+        both(&mut given, &mut slices, tally)
+            .map_err(|what| format!("{}\n{what}\n{asked:?}", call.name()))?;
     }
     Ok(())
 }
 
-/// One wild thing done to what a step is given.
+/// One wild thing done to what a call is given.
 fn wilder(dice: &mut Dice, given: &mut Given) {
-    if wrong_count(given).is_some() {
+    if given.wrong_count().is_some() {
         return;
     }
-    let cell = given.reading[0] as usize;
+    let cell = given.entry[0] as usize;
     let (plot, start) = (SOIL.saturating_mul(cell), ROW.saturating_mul(cell));
     let delays = given.card[1];
     match dice.below(16) {
@@ -291,9 +192,10 @@ fn wilder(dice: &mut Dice, given: &mut Given) {
             let place = dice.place(given.soil.len());
             given.soil[place] = wild::any_signed(dice);
         }
+        _ if given.call == Call::Void => wild::turn(dice, &mut given.entry),
         _ => {
             let cn = given.soil.get(plot.saturating_add(4)).copied().unwrap_or(0);
-            wild::reading(dice, &mut given.reading, cn);
+            wild::reading(dice, &mut given.entry, cn);
         }
     }
 }
@@ -305,7 +207,7 @@ fn wrong_length(dice: &mut Dice, given: &mut Given) {
         0 | 1 => given.soil.resize(other(dice, given.soil.len(), SOIL), 1),
         2 | 3 => given.rows.resize(other(dice, given.rows.len(), ROW), 0),
         4 => given.card.resize(other(dice, CARD, 1), 0),
-        5 => given.reading.resize(other(dice, READING, 1), 0),
+        5 => given.entry.resize(other(dice, given.call.width(), 1), 0),
         _ => given.amounts.resize(other(dice, AMOUNTS, 1), 5),
     }
 }

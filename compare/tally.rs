@@ -28,7 +28,7 @@ impl Tally {
     pub fn print(&self) {
         let Tally { steps, texts, journals, runs, .. } = self;
         println!(
-            "compared: {steps} steps, {texts} texts, {journals} journals, {runs} runs of waterbook"
+            "compared: {steps} steps and voids, {texts} texts, {journals} journals, {runs} runs of waterbook"
         );
         for call in CALLS {
             let met = self.numbers.iter().filter(|(key, _)| key.0 == call.0);
@@ -77,12 +77,15 @@ impl Tally {
 /// Each call with the numbers that it must give.
 const CALLS: &[(&str, &[u32])] = &[
     ("step", &[0, 1, 2, 3, 4, 5, 6, 7, 8, 9, 10, 255]),
+    ("void", &[0, 1, 2, 3, 4, 5, 6, 7, 8, 255]),
     ("clear", &[0, 1, 2, 255]),
     ("add", &[0, 11, 255]),
     ("read_card", &[0, 2, 12, 255]),
     ("write_card", &[0, 2, 12, 255]),
     ("read_reading", &[0, 12, 255]),
     ("write_reading", &[0, 12, 255]),
+    ("read_void", &[0, 12, 255]),
+    ("write_void", &[0, 12, 255]),
     ("write_answer", &[0, 12, 255]),
     ("write_sheet", &[0, 12, 255]),
     ("answer lines", &[0, 1, 2, 3, 4, 5, 6, 7, 8, 9, 10]),

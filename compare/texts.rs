@@ -1,18 +1,19 @@
-//! The texts of cards and readings: well-formed and damaged texts, buffers of any size.
+//! The texts of cards: well-formed and damaged texts, buffers of any size.
 
 use crate::lent::{Lent, equal, same};
-use crate::numbers::{card_numbers, card_of, reading_numbers, reading_of};
+use crate::numbers::{card_numbers, card_of};
 use crate::steps::small_site;
 use crate::tally::Tally;
-use crate::waterbook::{CARD, GOT, NOT_THE_COUNT, READING, SOIL, raw};
+use crate::waterbook::{CARD, GOT, NOT_THE_COUNT, SOIL, raw};
 use crate::wild;
 use second::made::damage::harm;
 use second::made::dice::Dice;
-use second::made::readings::{card_bytes, next_reading, reading_bytes};
+use second::made::entries::{entry_bytes, next_entry};
+use second::made::readings::card_bytes;
 use second::made::site::Site;
 use second::text;
 
-/// What texts must be met for.
+/// What texts of cards must be met for.
 pub const TEXTS: &[&str] = &[
     "card read",
     "card malformed at line 1",
@@ -26,16 +27,8 @@ pub const TEXTS: &[&str] = &[
     "card written with a soil slice of another length",
     "soil number that does not fit",
     "buffer too short for a card",
-    "reading read",
-    "reading read, bytes after it",
-    "reading malformed",
-    "reading without LF",
-    "reading written",
-    "reading written, buffer exactly as long",
-    "buffer too short for a reading",
     "got slice of another length",
     "card slice of another length",
-    "reading slice of another length",
 ];
 
 /// Bytes in which nothing is written yet.
@@ -50,15 +43,16 @@ pub fn got_slice(dice: &mut Dice) -> Vec<usize> {
 }
 
 /// Numbers for a reader to fill, the right count of them mostly.
-fn numbers_slice(dice: &mut Dice, right: usize) -> Vec<u32> {
+pub fn numbers_slice(dice: &mut Dice, right: usize) -> Vec<u32> {
     let length = if dice.once_in(50) { wild::other_length(dice, right, 1) } else { right };
     (0..length).map(|_| wild::any(dice)).collect()
 }
 
 /// Meet a call that was refused for a slice's count of numbers.
-fn meet_count(got: &[usize], name: &'static str, tally: &mut Tally) {
+fn meet_count(got: &[usize], tally: &mut Tally) {
     let short = got.len() != GOT;
-    tally.meet("texts", if short { "got slice of another length" } else { name });
+    let name = if short { "got slice of another length" } else { "card slice of another length" };
+    tally.meet("texts", name);
 }
 
 /// The text of a card, well-formed or damaged, with or without more after it.
@@ -69,7 +63,7 @@ fn card_text(dice: &mut Dice) -> Vec<u8> {
     }
     let mut bytes = card_bytes(&site);
     match dice.below(4) {
-        0 => bytes.extend(reading_bytes(&next_reading(&site, dice))),
+        0 => bytes.extend(entry_bytes(&next_entry(&site, dice, 4))),
         1 => bytes.extend(dice.roll().to_le_bytes()),
         _ => {}
     }
@@ -104,7 +98,7 @@ pub fn read_card(dice: &mut Dice, tally: &mut Tally) -> Result<(), String> {
         got = vec![taken.bytes, taken.line as usize];
         tally.meet("texts", card_read(number, taken.line, soil.len() > SOIL * read.cells as usize));
     } else {
-        meet_count(&got, "card slice of another length", tally);
+        meet_count(&got, tally);
     }
     tally.number("read_card", number);
     tally.texts += 1;
@@ -131,57 +125,6 @@ fn card_read(number: u32, line: u32, longer: bool) -> &'static str {
 /// A text as a line of Rust would show it.
 pub fn shown(bytes: &[u8]) -> String {
     bytes.escape_ascii().to_string().replace("\\n", "\\n\n")
-}
-
-/// The text of a reading, well-formed or damaged, with or without more after it.
-fn reading_text(dice: &mut Dice) -> Vec<u8> {
-    let numbers: Vec<u32> = (0..READING).map(|_| wild::any(dice)).collect();
-    let mut bytes = reading_bytes(&reading_of(&numbers));
-    match dice.below(4) {
-        0 => bytes.extend(b"cell=0 life=0\n"),
-        1 => bytes.extend(dice.roll().to_le_bytes()),
-        _ => {}
-    }
-    for _ in 0..dice.pick(&[0, 0, 1, 1, 1, 2, 3]) {
-        harm(dice, &mut bytes);
-    }
-    bytes
-}
-
-/// Read a reading on both sides.
-pub fn read_reading(dice: &mut Dice, tally: &mut Tally) -> Result<(), String> {
-    let bytes = reading_text(dice);
-    let (mut reading, mut got) = (numbers_slice(dice, READING), got_slice(dice));
-    let text = Lent::new(&bytes, b' ');
-    let (mut lent_reading, mut lent_got) = (Lent::new(&reading, 7), Lent::new(&got, 9));
-    let answered = raw::read_reading(text.held(), lent_reading.slice(), lent_got.slice());
-    let mut number = NOT_THE_COUNT;
-    if reading.len() == READING && got.len() == GOT {
-        let (taken, read) = text::read_reading(&bytes);
-        number = taken.number;
-        reading = reading_numbers(&read).to_vec();
-        got = vec![taken.bytes, taken.line as usize];
-        tally.meet("texts", reading_read(number, &bytes, taken.bytes));
-    } else {
-        meet_count(&got, "reading slice of another length", tally);
-    }
-    tally.number("read_reading", number);
-    tally.texts += 1;
-    equal("number", answered, number)
-        .and_then(|()| same("got", &lent_got, &got))
-        .and_then(|()| same("reading", &lent_reading, &reading))
-        .and_then(|()| same("text", &text, &bytes))
-        .map_err(|what| format!("read_reading\n{what}\ntext\n{}", shown(&bytes)))
-}
-
-/// What reading a reading came to.
-fn reading_read(number: u32, bytes: &[u8], taken: usize) -> &'static str {
-    match number {
-        0 if taken < bytes.len() => "reading read, bytes after it",
-        0 => "reading read",
-        _ if bytes.contains(&b'\n') => "reading malformed",
-        _ => "reading without LF",
-    }
 }
 
 /// A buffer's length, given how long the text is that should stand in it.
@@ -239,7 +182,7 @@ fn written_card(
         (number, got) = (wanted, vec![length, 0]);
         tally.meet("texts", card_written(number, card, soil, length == buffer.len()));
     } else {
-        meet_count(&got, "card slice of another length", tally);
+        meet_count(&got, tally);
     }
     tally.number("write_card", number);
     tally.texts += 1;
@@ -262,41 +205,5 @@ fn card_written(number: u32, card: &[u32], soil: &[i64], exact: bool) -> &'stati
         _ if no_text => "card that no text gives",
         _ if (0..soil.len()).all(fits) => "buffer too short for a card",
         _ => "soil number that does not fit",
-    }
-}
-
-/// Write a reading on both sides.
-pub fn write_reading(dice: &mut Dice, tally: &mut Tally) -> Result<(), String> {
-    let reading = numbers_slice(dice, READING);
-    let text =
-        if reading.len() == READING { reading_bytes(&reading_of(&reading)).len() } else { 90 };
-    let length = buffer_length(dice, text);
-    let (mut buffer, mut got) = (blank(dice, length), got_slice(dice));
-    let lent_reading = Lent::new(&reading, 7);
-    let (mut lent_buffer, mut lent_got) = (Lent::new(&buffer, b' '), Lent::new(&got, 9));
-    let answered = raw::write_reading(lent_reading.held(), lent_buffer.slice(), lent_got.slice());
-    let mut number = NOT_THE_COUNT;
-    if reading.len() == READING && got.len() == GOT {
-        let (wanted, written) = text::write_reading(&reading_of(&reading), &mut buffer);
-        (number, got) = (wanted, vec![written, 0]);
-        tally.meet("texts", reading_written(number, written == length));
-    } else {
-        meet_count(&got, "reading slice of another length", tally);
-    }
-    tally.number("write_reading", number);
-    tally.texts += 1;
-    equal("number", answered, number)
-        .and_then(|()| same("got", &lent_got, &got))
-        .and_then(|()| same("buffer", &lent_buffer, &buffer))
-        .and_then(|()| same("reading", &lent_reading, &reading))
-        .map_err(|what| format!("write_reading\n{what}\nbuffer of {length}\n{reading:?}"))
-}
-
-/// What writing a reading came to.
-fn reading_written(number: u32, exact: bool) -> &'static str {
-    match number {
-        0 if exact => "reading written, buffer exactly as long",
-        0 => "reading written",
-        _ => "buffer too short for a reading",
     }
 }

@@ -1,4 +1,4 @@
-//! Wild numbers: cards, soil numbers, rows and readings at the edges of their ranges and beyond.
+//! Wild numbers: cards, soil numbers, rows, readings and voids at the edges of their ranges and beyond.
 
 use crate::branches::rain_at_the_edge;
 use crate::heads;
@@ -83,6 +83,16 @@ pub fn row(dice: &mut Dice, row: &mut [u32], delays: u32) {
     }
 }
 
+/// A number of a turn put at an edge or beyond: cell, life or count.
+pub fn turn(dice: &mut Dice, turn: &mut [u32]) {
+    let any = any(dice);
+    match dice.below(3) {
+        0 => turn[0] = dice.pick(&[0, 1, 255, 256, u32::MAX, any]),
+        1 => turn[1] = dice.pick(&[0, 1, 65_535, 65_536, u32::MAX, any]),
+        _ => turn[2] = dice.pick(&[0, 1, 999_999, 1_000_000, u32::MAX, any]),
+    }
+}
+
 /// The rain at which the storm's runoff starts, for each curve number.
 fn edges() -> &'static [i64] {
     static EDGES: OnceLock<Vec<i64>> = OnceLock::new();
@@ -93,9 +103,7 @@ fn edges() -> &'static [i64] {
 pub fn reading(dice: &mut Dice, reading: &mut [u32], cn: i64) {
     let (edge, any) = (dice.pick(&[999_999, 1_000_000, 1_000_001, u32::MAX]), any(dice));
     match dice.below(13) {
-        0 => reading[0] = dice.pick(&[0, 1, 255, 256, u32::MAX, any]),
-        1 => reading[1] = dice.pick(&[0, 1, 65_535, 65_536, u32::MAX, any]),
-        2 => reading[2] = dice.pick(&[0, 1, 999_999, 1_000_000, u32::MAX, any]),
+        0..=2 => turn(dice, &mut reading[..3]),
         3..=7 => reading[dice.within(3, 7) as usize] = edge,
         8 => reading[6] = reading[7].wrapping_add(dice.below(2) as u32),
         9 => reading[8] = dice.pick(&[0, 1, 2, 3, 4, u32::MAX, any]),

@@ -39,8 +39,8 @@ use core::fmt;
 
 /// The version of the library; include/waterbook.h says what raises which part.
 pub const VERSION_MAJOR: u32 = 2;
-pub const VERSION_MINOR: u32 = 0;
-pub const VERSION_PATCH: u32 = 1;
+pub const VERSION_MINOR: u32 = 1;
+pub const VERSION_PATCH: u32 = 0;
 /// The version as one number.
 pub const VERSION: u32 = 1_000_000 * VERSION_MAJOR + 1_000 * VERSION_MINOR + VERSION_PATCH;
 
@@ -52,6 +52,8 @@ pub const SOIL: usize = 5;
 pub const ROW: usize = 32;
 /// Numbers in a reading: cell, life, count, rain, irrig, septic, etmin, pet, amc, the head's 32 bits.
 pub const READING: usize = 10;
+/// Numbers in the notice of a void: cell, life, count.
+pub const NOTICE: usize = 3;
 /// Amounts of an answer: inflow, runoff, etvad, etstor, etsat, drain, release, stored, recharge, left.
 pub const AMOUNTS: usize = 10;
 /// Numbers on a sheet: steps, then the sums of all amounts but left.
@@ -67,6 +69,8 @@ pub const LONGEST: usize = 65_536;
 pub const CARD_TEXT: usize = 24_082;
 /// The longest line of a reading.
 pub const READING_TEXT: usize = 161;
+/// The longest line of a void.
+pub const VOID_TEXT: usize = 54;
 /// The longest line of an answer.
 pub const ANSWER_TEXT: usize = 292;
 /// The longest line of a sheet.
@@ -74,30 +78,35 @@ pub const SHEET_TEXT: usize = 270;
 
 /// The stack that each raw call needs in bytes, as include/waterbook.h says it; a caller's own frames come on top.
 pub const STACK_STEP: usize = 832;
+pub const STACK_VOID: usize = 832;
 pub const STACK_CLEAR: usize = 192;
 pub const STACK_ADD: usize = 208;
 pub const STACK_READ_CARD: usize = 1_088;
 pub const STACK_WRITE_CARD: usize = 1_920;
 pub const STACK_READ_READING: usize = 512;
 pub const STACK_WRITE_READING: usize = 896;
+pub const STACK_READ_VOID: usize = 320;
+pub const STACK_WRITE_VOID: usize = 800;
 pub const STACK_WRITE_ANSWER: usize = 1_600;
 pub const STACK_WRITE_SHEET: usize = 1_536;
 pub const STACK_BOOK: usize = 45_056;
 
 /// The number of a raw call that was accepted.
 pub const ACCEPTED: u32 = 0;
-/// The number of a raw call where a card, reading, amounts, sheet or got slice has another count of numbers.
+/// The number of a raw call where a card, reading, notice, amounts, sheet or got slice has another count of numbers.
 pub const NOT_THE_COUNT: u32 = 255;
 
 /// A card's numbers.
 pub type Card = [u32; CARD];
 /// A reading's numbers.
 pub type Reading = [u32; READING];
-/// The amounts of an accepted reading, in µm.
+/// The numbers of a void's notice.
+pub type Notice = [u32; NOTICE];
+/// The amounts of an accepted reading or void, in µm.
 pub type Amounts = [i64; AMOUNTS];
 /// A sheet's numbers; zeros are an empty sheet.
 pub type Sheet = [i64; SHEET];
-/// What a step answers: amounts, or why the reading was refused.
+/// What a step answers: amounts, or why the reading or void was refused.
 pub type Answer = Result<Amounts, Refusal>;
 
 /// Why a call was refused, by the library's numbers; later versions may know more.
@@ -118,7 +127,8 @@ pub enum Refusal {
     Old = 6,
     /// Gap: the life is the same with a count higher than next, or higher with a count that is not 0.
     Gap = 7,
-    /// Another field of the reading is out of range, life and count included, or etmin is above pet.
+    /// Another field of the reading is out of range, life and count included, or etmin is above pet; a void's life or
+    /// count is out of range.
     BadReading = 8,
     /// The head is no number, or above 10,000 m in size and is neither mark.
     UnusableHead = 9,
@@ -166,9 +176,9 @@ impl fmt::Display for Refusal {
             Refusal::BadCell => "the site has no such cell",
             Refusal::BadSoil => "a soil number of the cell is out of range",
             Refusal::BadRow => "the cell's stored row is out of range",
-            Refusal::Old => "the reading is old: its count was used up before",
-            Refusal::Gap => "a reading before this one is missing",
-            Refusal::BadReading => "a field of the reading is out of range",
+            Refusal::Old => "the reading or void is old: its count was used up before",
+            Refusal::Gap => "a reading or void before this one is missing",
+            Refusal::BadReading => "a field of the reading or void is out of range",
             Refusal::UnusableHead => "the head cannot be used",
             Refusal::InactiveHead => "the head is marked inactive",
             Refusal::NotAddable => "the answer cannot be added to the sheet",
@@ -224,7 +234,13 @@ pub fn step(card: &Card, soil: &[i64], rows: &mut [u32], reading: &Reading) -> A
     accepted(raw::step(card, soil, rows, reading, &mut amounts)).map(|()| amounts)
 }
 
-/// Set all rows of the site to 0, once, before its first reading.
+/// One void of the site: it uses up a count for which no reading will come, and the waiting water moves on by a step.
+pub fn void(card: &Card, soil: &[i64], rows: &mut [u32], notice: &Notice) -> Answer {
+    let mut amounts = [0; AMOUNTS];
+    accepted(raw::void(card, soil, rows, notice, &mut amounts)).map(|()| amounts)
+}
+
+/// Set all rows of the site to 0, once, before its first reading or void.
 pub fn clear(card: &Card, rows: &mut [u32]) -> Result<(), Refusal> {
     accepted(raw::clear(card, rows))
 }
@@ -270,7 +286,19 @@ pub fn write_reading(reading: &Reading, buf: &mut [u8]) -> Result<usize, Refusal
     length(raw::write_reading(reading, buf, &mut got), got)
 }
 
-/// Write the line of a reading's answer at the buffer's start: its length.
+/// Read the line of one void: its notice and the bytes taken.
+pub fn read_void(text: &[u8]) -> Result<(Notice, usize), Refusal> {
+    let (mut notice, mut got) = ([0; NOTICE], [0; GOT]);
+    accepted(raw::read_void(text, &mut notice, &mut got)).map(|()| (notice, got[0]))
+}
+
+/// Write the line of a void at the buffer's start: its length.
+pub fn write_void(notice: &Notice, buf: &mut [u8]) -> Result<usize, Refusal> {
+    let mut got = [0; GOT];
+    length(raw::write_void(notice, buf, &mut got), got)
+}
+
+/// Write the line of a reading's or void's answer at the buffer's start: its length.
 pub fn write_answer(cell: u32, answer: &Answer, buf: &mut [u8]) -> Result<usize, Refusal> {
     let ((number, amounts), mut got) = (numbers(answer), [0; GOT]);
     length(raw::write_answer(cell, number, &amounts, buf, &mut got), got)
@@ -303,6 +331,14 @@ pub mod raw {
     pub fn step(card: &[u32], soil: &[i64], rows: &mut [u32], reading: &[u32], amounts: &mut [i64]) -> u32 {
         unsafe {
             library::waterbook_step(card.as_ptr(), card.len(), soil.as_ptr(), soil.len(), rows.as_mut_ptr(), rows.len(), reading.as_ptr(), reading.len(), amounts.as_mut_ptr(), amounts.len())
+        }
+    }
+
+    /// One void of the site: its number, and the ten amounts in `amounts`.
+    #[rustfmt::skip]
+    pub fn void(card: &[u32], soil: &[i64], rows: &mut [u32], notice: &[u32], amounts: &mut [i64]) -> u32 {
+        unsafe {
+            library::waterbook_void(card.as_ptr(), card.len(), soil.as_ptr(), soil.len(), rows.as_mut_ptr(), rows.len(), notice.as_ptr(), notice.len(), amounts.as_mut_ptr(), amounts.len())
         }
     }
 
@@ -353,6 +389,22 @@ pub mod raw {
         }
     }
 
+    /// Read the line of one void: its number; `got` holds bytes taken and malformed line.
+    #[rustfmt::skip]
+    pub fn read_void(text: &[u8], notice: &mut [u32], got: &mut [usize]) -> u32 {
+        unsafe {
+            library::waterbook_read_void(text.as_ptr(), text.len(), notice.as_mut_ptr(), notice.len(), got.as_mut_ptr(), got.len())
+        }
+    }
+
+    /// Write the line of a void: its number; `got` holds the length written and 0.
+    #[rustfmt::skip]
+    pub fn write_void(notice: &[u32], buf: &mut [u8], got: &mut [usize]) -> u32 {
+        unsafe {
+            library::waterbook_write_void(notice.as_ptr(), notice.len(), buf.as_mut_ptr(), buf.len(), got.as_mut_ptr(), got.len())
+        }
+    }
+
     /// Write the line of an answer: its number; `got` holds the length written and 0.
     #[rustfmt::skip]
     pub fn write_answer(cell: u32, number: u32, amounts: &[i64], buf: &mut [u8], got: &mut [usize]) -> u32 {
@@ -382,12 +434,15 @@ mod library {
     #[rustfmt::skip]
     unsafe extern "C" {
         pub fn waterbook_step(card: *const u32, card_len: usize, soil: *const i64, soil_len: usize, rows: *mut u32, rows_len: usize, reading: *const u32, reading_len: usize, amounts: *mut i64, amounts_len: usize) -> u32;
+        pub fn waterbook_void(card: *const u32, card_len: usize, soil: *const i64, soil_len: usize, rows: *mut u32, rows_len: usize, notice: *const u32, notice_len: usize, amounts: *mut i64, amounts_len: usize) -> u32;
         pub fn waterbook_clear(card: *const u32, card_len: usize, rows: *mut u32, rows_len: usize) -> u32;
         pub fn waterbook_add(sheet: *mut i64, sheet_len: usize, number: u32, amounts: *const i64, amounts_len: usize) -> u32;
         pub fn waterbook_read_card(text: *const u8, text_len: usize, card: *mut u32, card_len: usize, soil: *mut i64, soil_len: usize, got: *mut usize, got_len: usize) -> u32;
         pub fn waterbook_write_card(card: *const u32, card_len: usize, soil: *const i64, soil_len: usize, buf: *mut u8, buf_len: usize, got: *mut usize, got_len: usize) -> u32;
         pub fn waterbook_read_reading(text: *const u8, text_len: usize, reading: *mut u32, reading_len: usize, got: *mut usize, got_len: usize) -> u32;
         pub fn waterbook_write_reading(reading: *const u32, reading_len: usize, buf: *mut u8, buf_len: usize, got: *mut usize, got_len: usize) -> u32;
+        pub fn waterbook_read_void(text: *const u8, text_len: usize, notice: *mut u32, notice_len: usize, got: *mut usize, got_len: usize) -> u32;
+        pub fn waterbook_write_void(notice: *const u32, notice_len: usize, buf: *mut u8, buf_len: usize, got: *mut usize, got_len: usize) -> u32;
         pub fn waterbook_write_answer(cell: u32, number: u32, amounts: *const i64, amounts_len: usize, buf: *mut u8, buf_len: usize, got: *mut usize, got_len: usize) -> u32;
         pub fn waterbook_write_sheet(sheet: *const i64, sheet_len: usize, buf: *mut u8, buf_len: usize, got: *mut usize, got_len: usize) -> u32;
         pub fn waterbook_book(journal: *const u8, journal_len: usize, buf: *mut u8, buf_len: usize) -> usize;

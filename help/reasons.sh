@@ -2,17 +2,18 @@
 
 # A row is a kind of line and its words in order. word: a decimal of 32 bits; signed: one of 64 that may have a minus; bits: 8 hex digits.
 # A..B: a number outside is malformed, as is not:V; clear:A..B and rising: clearing refuses other numbers; times:KEY: as often as KEY says.
-# A row `card+` is a word that may stand at the end of the card line. Of several rows of a kind, the line's first word chooses.
+# A row `card+` is a word that may stand at the end of the card line. Of several rows of a kind, the line's first word chooses; a word without = is no pair.
 forms='
 card cells=word,1..256 delays=word,0..30 depth=word,times:delays,clear:1..1000000000,rising
 soil top=signed etdepth=word vadpor=word leak=word cn=word
 entry cell=word life=word count=word rain=word irrig=word septic=word etmin=word pet=word amc=word head=bits
+entry void cell=word life=word count=word
 '
 
-# What a kind of line is called.
-declare -A called=([card]='the first line of a card' [soil]='a line of soil numbers' [entry]='a reading')
+# What a kind of line is called; and where a kind has several rows, each row by its first word.
+declare -A called=([card]='the first line of a card' [soil]='a line of soil numbers' [entry]='a reading or a void' [cell]='a reading' [void]='a void')
 declare -A values=()
-reason='' form='' extra='' rest='' taken='' why='' asked='' plots='' at=0
+reason='' form='' extra='' others='' rest='' taken='' why='' asked='' plots='' at=0
 
 # Prints a word of the journal, cut short, with ? for each byte that is no printable ASCII.
 shown() {
@@ -27,23 +28,29 @@ attribute() { # NAME WORD
     [[ ,${2#*,}, =~ ,$1:([^,]*), ]] && found=${BASH_REMATCH[1]}
 }
 
-# Chooses the row of a kind for a line, and the words that may follow it.
+# Chooses the row of a kind for a line, and the words that may follow it. Where the first word chooses none, the first row is taken and the others are set by.
 choose_form() { # KIND LINE
-    local kind row first=${2%%[$'= \t']*}
-    form='' extra=''
+    local kind row first=${2#"${2%%[!$' \t']*}"} chosen=''
+    first=${first%%[$'= \t']*}
+    form='' extra='' others=''
     while read -r kind row; do
         if [ "$kind" = "$1+" ]; then
             extra+=" $row"
-        elif [ "$kind" = "$1" ] && { [ -z "$form" ] || [ "${row%%[= ]*}" = "$first" ]; }; then
+        elif [ "$kind" = "$1" ] && [ "${row%%[= ]*}" = "${first,,}" ]; then
+            form=$row chosen=1
+        elif [ "$kind" = "$1" ] && [ -z "$form" ]; then
             form=$row
+        elif [ "$kind" = "$1" ]; then
+            others+=$'\n'$row
         fi
     done <<< "$forms"
+    [ -z "$chosen" ] || others=''
 }
 
-# The form in force as a person would write it.
-form_shown() {
+# A form as a person would write it.
+form_shown() { # FORM
     local word text='' found
-    for word in $form; do
+    for word in $1; do
         attribute times "$word"
         case ${word#*=} in
             bits*) text+=" ${word%%=*}=HHHHHHHH" ;;
@@ -57,6 +64,7 @@ form_shown() {
 
 fault() {
     reason="line $line, pair $at: $1"
+    [ "$at" -gt 0 ] || reason="line $line, its first word: $1"
     return 1
 }
 
@@ -135,17 +143,19 @@ misplaced() { # KEY TOKEN
         esac
         return
     fi
-    if [ "$at" -eq 1 ]; then
+    if [ -z "$taken" ]; then
         while read -r kind row; do
             [ -n "$kind" ] && [ "$kind" != "$now" ] && [ "${row%%[= ]*}" = "$key" ] || continue
-            fault "$(shown "$2") starts ${called[$kind]:-another kind of line}, where ${called[$now]} should stand$(soil_lines)"
+            fault "$(shown "$2") starts ${called[$key]:-${called[$kind]:-another kind of line}}, where ${called[$now]} should stand$(soil_lines)"
             return
         done <<< "$forms"
     fi
-    if [[ $2 != *=* ]]; then
-        fault "$(shown "$2") has no =, where $1 should stand"
-    elif [ "${key,,}=" = "$1" ]; then
+    if [ -n "$others" ] && [[ " $form" != *" ${key,,}="* ]]; then
+        fault "$(shown "$2") starts no line that a journal has, where ${called[$now]} should stand"
+    elif [ "${key,,}" = "${1%=}" ] && [ "$key" != "${1%=}" ]; then
         fault "$(shown "$key") is not lower case, where $1 should stand"
+    elif [[ $2 != *=* ]]; then
+        fault "$(shown "$2") has no =, where $1 should stand"
     elif [[ " $form $extra" != *" $key="* ]]; then
         fault "$(shown "$key")= is no key of this line, where $1 should stand"
     elif [ -n "${values[$key]-}" ]; then
@@ -160,9 +170,8 @@ misplaced() { # KEY TOKEN
 # Takes the next pair of the line, or says why it is not the one that should stand there.
 take_pair() { # WORD OF THE FORM
     local key=${1%%=*} token
-    at=$((at + 1))
-    [ "$key" = "$1" ] || key="$key="
-    [ "$at" -eq 1 ] || take_space "$key" || return 1
+    [ "$key" = "$1" ] || { at=$((at + 1)) key="$key="; }
+    [ -z "$taken" ] || take_space "$key" || return 1
     token=${rest%%[$' \t']*}
     if [ "$key" = "$1" ]; then
         [ "$token" = "$key" ] || misplaced "$key" "$token" || return 1
@@ -232,7 +241,7 @@ find_kind() {
 
 # Sets reason for a malformed line.
 line_reason() {
-    local text kind plots ends=''
+    local text kind plots row ends=''
     if [ ! -s "$room/journal" ]; then reason="$name is empty, where a card should stand"; return; fi
     find_kind
     text=$(text_of "$line")
@@ -254,7 +263,10 @@ line_reason() {
         reason+="; it also $ends"
     fi
     choose_form "$kind" "$text"
-    reason+=$'\n'"the form of line $line: $(form_shown)"
+    reason+=$'\n'"the form of line $line: $(form_shown "$form")"
+    while read -r row; do
+        [ -z "$row" ] || reason+=", or $(form_shown "$row")"
+    done <<< "$others"
 }
 
 # Sets reason for a card that clearing refuses.

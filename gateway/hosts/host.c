@@ -1,4 +1,5 @@
-/* A host in C: keeps the book of the rules page's example through the proved library.
+/* A host in C: keeps the book of the rules page's example, with a day of rain and a void after it, through the proved
+ * library.
  * host-c               the example
  * host-c SEED CALLS    so many random calls, wrong counts of numbers among them; for valgrind */
 #include <inttypes.h>
@@ -13,13 +14,17 @@ static const char journal[] =
     "top=10000000 etdepth=1500000 vadpor=200 leak=100000 cn=80\n"
     "cell=0 life=0 count=0 rain=50800 irrig=0 septic=1000 etmin=2000 pet=5000 amc=2 head=410c0000\n"
     "cell=0 life=0 count=1 rain=0 irrig=0 septic=0 etmin=2000 pet=5000 amc=2 head=410c0000\n"
-    "cell=0 life=0 count=1 rain=0 irrig=0 septic=0 etmin=2000 pet=5000 amc=2 head=410c0000\n";
+    "cell=0 life=0 count=1 rain=0 irrig=0 septic=0 etmin=2000 pet=5000 amc=2 head=410c0000\n"
+    "cell=0 life=0 count=2 rain=50800 irrig=0 septic=0 etmin=2000 pet=5000 amc=2 head=410c0000\n"
+    "void cell=0 life=0 count=3\n";
 
 static const char book[] =
     "cell=0 code=0 inflow=51800 runoff=14287 etvad=2000 etstor=0 etsat=500 drain=0 release=0 stored=34513 recharge=500 left=34513\n"
     "cell=0 code=0 inflow=0 runoff=0 etvad=0 etstor=0 etsat=833 drain=0 release=34513 stored=0 recharge=33680 left=0\n"
     "cell=0 code=6 inflow=0 runoff=0 etvad=0 etstor=0 etsat=0 drain=0 release=0 stored=0 recharge=0 left=0\n"
-    "steps=2 inflow=51800 runoff=14287 etvad=2000 etstor=0 etsat=1333 drain=0 release=34513 stored=34513 recharge=34180\n";
+    "cell=0 code=0 inflow=50800 runoff=14287 etvad=2000 etstor=0 etsat=500 drain=0 release=0 stored=34513 recharge=-500 left=34513\n"
+    "cell=0 code=0 inflow=0 runoff=0 etvad=0 etstor=0 etsat=0 drain=0 release=34513 stored=0 recharge=34513 left=0\n"
+    "steps=4 inflow=102600 runoff=28574 etvad=4000 etstor=0 etsat=1833 drain=0 release=69026 stored=69026 recharge=68193\n";
 
 /* ---- the example ---- */
 
@@ -49,43 +54,62 @@ static uint32_t put_sheet(struct page *page, const int64_t *sheet) {
     return grown(page, written, got);
 }
 
-/* One reading: its answer on the page and on the sheet; the bytes taken, or 0 where it is malformed or has no room. */
-static size_t keep_reading(const uint32_t *card, const int64_t *soil, size_t soil_len, uint32_t *rows,
-                           size_t rows_len, const uint8_t *text, size_t text_len, int64_t *sheet,
-                           struct page *page) {
-    uint32_t reading[WATERBOOK_READING];
-    int64_t amounts[WATERBOOK_AMOUNTS];
+/* A site: its card, soil numbers and stored rows, and its sheet. */
+struct site {
+    uint32_t card[WATERBOOK_CARD], rows[WATERBOOK_ROW * WATERBOOK_CELLS];
+    int64_t soil[WATERBOOK_SOIL * WATERBOOK_CELLS], sheet[WATERBOOK_SHEET];
+    size_t soil_len, rows_len;
+};
+
+/* One entry, a void or a reading: its number, its cell and its amounts; the bytes taken, or 0 where it is malformed. */
+static size_t step_entry(struct site *site, const uint8_t *text, size_t text_len, uint32_t *number, uint32_t *cell,
+                         int64_t *amounts) {
+    uint32_t notice[WATERBOOK_NOTICE], reading[WATERBOOK_READING];
     size_t got[WATERBOOK_GOT];
+    if (waterbook_read_void(text, text_len, notice, WATERBOOK_NOTICE, got, WATERBOOK_GOT) == WATERBOOK_ACCEPTED) {
+        *cell = notice[0];
+        *number = waterbook_void(site->card, WATERBOOK_CARD, site->soil, site->soil_len, site->rows, site->rows_len,
+                                 notice, WATERBOOK_NOTICE, amounts, WATERBOOK_AMOUNTS);
+        return got[0];
+    }
     if (waterbook_read_reading(text, text_len, reading, WATERBOOK_READING, got, WATERBOOK_GOT) != WATERBOOK_ACCEPTED)
         return 0;
-    uint32_t number = waterbook_step(card, WATERBOOK_CARD, soil, soil_len, rows, rows_len, reading,
-                                     WATERBOOK_READING, amounts, WATERBOOK_AMOUNTS);
-    if (put_answer(page, reading[0], number, amounts) != WATERBOOK_ACCEPTED)
+    *cell = reading[0];
+    *number = waterbook_step(site->card, WATERBOOK_CARD, site->soil, site->soil_len, site->rows, site->rows_len,
+                             reading, WATERBOOK_READING, amounts, WATERBOOK_AMOUNTS);
+    return got[0];
+}
+
+/* One entry: its answer on the page and on the sheet; the bytes taken, or 0 where it is malformed or has no room. */
+static size_t keep_entry(struct site *site, const uint8_t *text, size_t text_len, struct page *page) {
+    uint32_t number, cell;
+    int64_t amounts[WATERBOOK_AMOUNTS];
+    size_t taken = step_entry(site, text, text_len, &number, &cell, amounts);
+    if (taken == 0 || put_answer(page, cell, number, amounts) != WATERBOOK_ACCEPTED)
         return 0;
     /* A refused answer gets 11 and leaves the sheet as it was. */
-    (void)waterbook_add(sheet, WATERBOOK_SHEET, number, amounts, WATERBOOK_AMOUNTS);
-    return got[0];
+    (void)waterbook_add(site->sheet, WATERBOOK_SHEET, number, amounts, WATERBOOK_AMOUNTS);
+    return taken;
 }
 
 /* The whole example by single calls: 0, or the number that stopped it. */
 static uint32_t keep_book(const uint8_t *text, size_t text_len, struct page *page) {
-    static uint32_t rows[WATERBOOK_ROW * WATERBOOK_CELLS];
-    static int64_t soil[WATERBOOK_SOIL * WATERBOOK_CELLS];
-    uint32_t card[WATERBOOK_CARD];
-    int64_t sheet[WATERBOOK_SHEET] = {0};
+    static struct site site;
     size_t got[WATERBOOK_GOT];
-    uint32_t number = waterbook_read_card(text, text_len, card, WATERBOOK_CARD, soil,
+    uint32_t number = waterbook_read_card(text, text_len, site.card, WATERBOOK_CARD, site.soil,
                                           WATERBOOK_SOIL * WATERBOOK_CELLS, got, WATERBOOK_GOT);
     if (number != WATERBOOK_ACCEPTED)
         return number;
-    size_t at = got[0], soil_len = WATERBOOK_SOIL * card[0], rows_len = WATERBOOK_ROW * card[0];
-    number = waterbook_clear(card, WATERBOOK_CARD, rows, rows_len);
+    size_t at = got[0];
+    site.soil_len = WATERBOOK_SOIL * site.card[0];
+    site.rows_len = WATERBOOK_ROW * site.card[0];
+    number = waterbook_clear(site.card, WATERBOOK_CARD, site.rows, site.rows_len);
     while (number == WATERBOOK_ACCEPTED && at < text_len) {
-        size_t taken = keep_reading(card, soil, soil_len, rows, rows_len, text + at, text_len - at, sheet, page);
+        size_t taken = keep_entry(&site, text + at, text_len - at, page);
         number = taken == 0 ? WATERBOOK_MALFORMED : WATERBOOK_ACCEPTED;
         at += taken;
     }
-    return number == WATERBOOK_ACCEPTED ? put_sheet(page, sheet) : number;
+    return number == WATERBOOK_ACCEPTED ? put_sheet(page, site.sheet) : number;
 }
 
 /* Is this text the example's book? */
@@ -246,21 +270,32 @@ static uint32_t *any_reading(size_t count) {
     return reading;
 }
 
-static void call_step(void) {
-    size_t card_len = count_of(WATERBOOK_CARD), reading_len = count_of(WATERBOOK_READING);
+/* What a call takes or hands back as a record: a card, a reading, or the notice of a void. */
+enum kind { CARD = WATERBOOK_CARD, READING = WATERBOOK_READING, NOTICE = WATERBOOK_NOTICE };
+
+/* Any record of a kind; a notice is the first numbers of a reading. */
+static uint32_t *any_record(enum kind kind, size_t count) {
+    return kind == CARD ? any_card(count) : any_reading(count);
+}
+
+/* One reading, or one void. */
+static void call_step(enum kind kind) {
+    size_t card_len = count_of(WATERBOOK_CARD), entry_len = count_of(kind);
     size_t amounts_len = count_of(WATERBOOK_AMOUNTS);
-    uint32_t *card = any_card(card_len), *reading = any_reading(reading_len);
+    uint32_t *card = any_card(card_len), *entry = any_record(kind, entry_len), number;
     size_t soil_len = count_of(WATERBOOK_SOIL * cells_of(card, card_len));
     size_t rows_len = count_of(WATERBOOK_ROW * cells_of(card, card_len));
     int64_t *soil = any_soil(soil_len), *amounts = lend(amounts_len * sizeof *amounts);
     uint32_t *rows = any_rows(rows_len);
     /* The amounts come unset: the library must not look at them. */
-    uint32_t number = waterbook_step(card, card_len, soil, soil_len, rows, rows_len, reading, reading_len,
-                                     amounts, amounts_len);
+    if (kind == NOTICE)
+        number = waterbook_void(card, card_len, soil, soil_len, rows, rows_len, entry, entry_len, amounts, amounts_len);
+    else
+        number = waterbook_step(card, card_len, soil, soil_len, rows, rows_len, entry, entry_len, amounts, amounts_len);
     note(number, rows, rows_len * sizeof *rows);
     if (number != WATERBOOK_NOT_THE_COUNT)
         note(number, amounts, amounts_len * sizeof *amounts);
-    free(card), free(reading), free(soil), free(rows), free(amounts);
+    free(card), free(entry), free(soil), free(rows), free(amounts);
 }
 
 static void call_clear(void) {
@@ -301,18 +336,22 @@ static uint8_t *any_text(size_t start, size_t *length) {
     return text;
 }
 
-/* The start of the first reading in the example's journal. */
-static size_t readings_start(void) { return (size_t)(strstr(journal, "cell=0") - journal); }
+/* The start of the first line of a kind in the example's journal. */
+static size_t start_of(enum kind kind) {
+    return kind == CARD ? 0 : (size_t)(strstr(journal, kind == NOTICE ? "void" : "cell=0") - journal);
+}
 
-static void call_read(int of_card) {
-    size_t text_len, numbers_len = count_of(of_card ? WATERBOOK_CARD : WATERBOOK_READING);
+static void call_read(enum kind kind) {
+    size_t text_len, numbers_len = count_of(kind);
     size_t soil_len = below(8), got_len = count_of(WATERBOOK_GOT);
-    uint8_t *text = any_text(of_card ? 0 : readings_start(), &text_len);
+    uint8_t *text = any_text(start_of(kind), &text_len);
     uint32_t *numbers = lend(numbers_len * sizeof *numbers), number;
     int64_t *soil = any_soil(soil_len);
     size_t *got = lend(got_len * sizeof *got);
-    if (of_card)
+    if (kind == CARD)
         number = waterbook_read_card(text, text_len, numbers, numbers_len, soil, soil_len, got, got_len);
+    else if (kind == NOTICE)
+        number = waterbook_read_void(text, text_len, numbers, numbers_len, got, got_len);
     else
         number = waterbook_read_reading(text, text_len, numbers, numbers_len, got, got_len);
     note(number, soil, soil_len * sizeof *soil);
@@ -331,16 +370,18 @@ static void note_written(uint32_t number, const size_t *got, size_t got_len, con
         note(number, buf, got[0]);
 }
 
-static void call_write(int of_card) {
-    size_t numbers_len = count_of(of_card ? WATERBOOK_CARD : WATERBOOK_READING), got_len = count_of(WATERBOOK_GOT);
-    uint32_t *numbers = of_card ? any_card(numbers_len) : any_reading(numbers_len), number;
-    size_t soil_len = count_of(WATERBOOK_SOIL * (of_card ? cells_of(numbers, numbers_len) : 1));
-    size_t buf_len = below(of_card ? 900 : 150);
+static void call_write(enum kind kind) {
+    size_t numbers_len = count_of(kind), got_len = count_of(WATERBOOK_GOT);
+    uint32_t *numbers = any_record(kind, numbers_len), number;
+    size_t soil_len = count_of(WATERBOOK_SOIL * (kind == CARD ? cells_of(numbers, numbers_len) : 1));
+    size_t buf_len = below(kind == CARD ? 900 : kind == NOTICE ? 50 : 150);
     int64_t *soil = any_soil(soil_len);
     uint8_t *buf = lend(buf_len);
     size_t *got = lend(got_len * sizeof *got);
-    if (of_card)
+    if (kind == CARD)
         number = waterbook_write_card(numbers, numbers_len, soil, soil_len, buf, buf_len, got, got_len);
+    else if (kind == NOTICE)
+        number = waterbook_write_void(numbers, numbers_len, buf, buf_len, got, got_len);
     else
         number = waterbook_write_reading(numbers, numbers_len, buf, buf_len, got, got_len);
     note_written(number, got, got_len, buf);
@@ -386,17 +427,20 @@ static void call_book(void) {
 }
 
 static void call_any(void) {
-    switch (below(12)) {
+    switch (below(16)) {
     case 0: call_clear(); break;
     case 1: call_add(); break;
-    case 2: call_read(1); break;
-    case 3: call_read(0); break;
-    case 4: call_write(1); break;
-    case 5: call_write(0); break;
-    case 6: call_book(); break;
-    case 7: call_line(1); break;
-    case 8: call_line(0); break;
-    default: call_step(); break;
+    case 2: call_read(CARD); break;
+    case 3: call_read(READING); break;
+    case 4: call_read(NOTICE); break;
+    case 5: call_write(CARD); break;
+    case 6: call_write(READING); break;
+    case 7: call_write(NOTICE); break;
+    case 8: call_book(); break;
+    case 9: call_line(1); break;
+    case 10: call_line(0); break;
+    case 11: case 12: call_step(NOTICE); break;
+    default: call_step(READING); break;
     }
 }
 

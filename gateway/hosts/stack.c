@@ -15,10 +15,11 @@
 
 /* What the calls are lent: the records with their counts, and the counts of the text and the buffer. */
 struct lent {
-    uint32_t card[WATERBOOK_CARD], reading[WATERBOOK_READING], rows[WATERBOOK_ROW * WATERBOOK_CELLS];
+    uint32_t card[WATERBOOK_CARD], reading[WATERBOOK_READING], notice[WATERBOOK_NOTICE];
+    uint32_t rows[WATERBOOK_ROW * WATERBOOK_CELLS];
     int64_t soil[WATERBOOK_SOIL * WATERBOOK_CELLS], amounts[WATERBOOK_AMOUNTS], sheet[WATERBOOK_SHEET];
     size_t got[WATERBOOK_GOT];
-    size_t card_len, reading_len, rows_len, soil_len, amounts_len, sheet_len, got_len, text_len, buf_len;
+    size_t card_len, reading_len, notice_len, rows_len, soil_len, amounts_len, sheet_len, got_len, text_len, buf_len;
     uint32_t cell, answered;
 };
 
@@ -32,6 +33,11 @@ static size_t number;     /* what the call returned */
 static void make_step(void) {
     number = waterbook_step(lent.card, lent.card_len, lent.soil, lent.soil_len, lent.rows, lent.rows_len, lent.reading,
                             lent.reading_len, lent.amounts, lent.amounts_len);
+}
+
+static void make_void(void) {
+    number = waterbook_void(lent.card, lent.card_len, lent.soil, lent.soil_len, lent.rows, lent.rows_len, lent.notice,
+                            lent.notice_len, lent.amounts, lent.amounts_len);
 }
 
 static void make_clear(void) { number = waterbook_clear(lent.card, lent.card_len, lent.rows, lent.rows_len); }
@@ -56,6 +62,14 @@ static void make_read_reading(void) {
 
 static void make_write_reading(void) {
     number = waterbook_write_reading(lent.reading, lent.reading_len, buf, lent.buf_len, lent.got, lent.got_len);
+}
+
+static void make_read_void(void) {
+    number = waterbook_read_void(text, lent.text_len, lent.notice, lent.notice_len, lent.got, lent.got_len);
+}
+
+static void make_write_void(void) {
+    number = waterbook_write_void(lent.notice, lent.notice_len, buf, lent.buf_len, lent.got, lent.got_len);
 }
 
 static void make_write_answer(void) {
@@ -158,7 +172,8 @@ static void give_delays(uint32_t delays) {
     }
 }
 
-/* All in order: 30 delays, soil numbers, the reading that is due for the last cell, an answer and a sheet. */
+/* All in order: 30 delays, soil numbers, the reading and the void that are due for the last cell, an answer and a
+ * sheet. */
 static void give_all(void) {
     static const int64_t plot[WATERBOOK_SOIL] = {10000000, 1500000, 200, 100000, 80};
     static const uint32_t fair[WATERBOOK_READING] = {255, 3, 7, 50800, 20000, 1000, 2000, 5000, 2, 0x410c0000};
@@ -167,6 +182,8 @@ static void give_all(void) {
     for (size_t i = 0; i < WATERBOOK_SOIL * WATERBOOK_CELLS; i++)
         given.soil[i] = plot[i % WATERBOOK_SOIL];
     memcpy(given.reading, fair, sizeof fair);
+    memcpy(given.notice, fair, sizeof given.notice);
+    given.notice_len = WATERBOOK_NOTICE;
     given.card_len = WATERBOOK_CARD;
     given.reading_len = WATERBOOK_READING;
     given.rows_len = WATERBOOK_ROW * WATERBOOK_CELLS;
@@ -182,6 +199,7 @@ static void give_longest(void) {
     give_all();
     memset(given.card + 2, 0xff, 30 * sizeof *given.card);
     memset(given.reading, 0xff, sizeof given.reading);
+    memset(given.notice, 0xff, sizeof given.notice);
     given.cell = UINT32_MAX;
     for (size_t i = 0; i < WATERBOOK_SOIL * WATERBOOK_CELLS; i++)
         given.soil[i] = i % WATERBOOK_SOIL == 0 ? INT64_MIN : UINT32_MAX;
@@ -232,36 +250,51 @@ static void accepted_steps(void) {
     }
 }
 
-static void step_cases(void) {
-    static const uint32_t wrong[] = {1000001, 1000001, 1000001, 1000001, 1999, 4};
+/* The refusals that a reading and a void have in common: by card, slices and row, and by the entry's cell, life and
+ * count, which stand first in it. */
+static void refused_entries(uint32_t *entry) {
     uint32_t *row = given.rows + WATERBOOK_ROW * 255;
-    try(WATERBOOK_ACCEPTED);
-    accepted_steps();
-    give_all();
     try_with(&given.card[31], 1, WATERBOOK_BAD_CARD);
     try_with(&given.card[0], 257, WATERBOOK_BAD_CARD);
     try_shorter(&given.soil_len, WATERBOOK_BAD_LENGTHS);
     try_shorter(&given.rows_len, WATERBOOK_BAD_LENGTHS);
-    try_with(&given.reading[0], 256, WATERBOOK_BAD_CELL);
+    try_with(&entry[0], 256, WATERBOOK_BAD_CELL);
     for (size_t i = 0; i < WATERBOOK_SOIL; i++)
         try_with_signed(&given.soil[WATERBOOK_SOIL * 255 + i], INT64_MIN, WATERBOOK_BAD_SOIL);
     for (size_t i = 0; i < WATERBOOK_ROW; i++)
         try_with(&row[i], UINT32_MAX, WATERBOOK_BAD_ROW);
     try_with(&row[0], 4, WATERBOOK_OLD);
-    try_with(&given.reading[2], 6, WATERBOOK_OLD);
-    try_with(&given.reading[2], 8, WATERBOOK_GAP);
-    try_with(&given.reading[1], 4, WATERBOOK_GAP);
-    row[1] = given.reading[2] = 1000000;
+    try_with(&entry[2], 6, WATERBOOK_OLD);
+    try_with(&entry[2], 8, WATERBOOK_GAP);
+    try_with(&entry[1], 4, WATERBOOK_GAP);
+    row[1] = entry[2] = 1000000;
     try(WATERBOOK_BAD_READING);
-    row[1] = given.reading[2] = 7;
+    row[1] = entry[2] = 7;
+    try_shorter(&given.card_len, WATERBOOK_NOT_THE_COUNT);
+    try_shorter(&given.amounts_len, WATERBOOK_NOT_THE_COUNT);
+}
+
+static void step_cases(void) {
+    static const uint32_t wrong[] = {1000001, 1000001, 1000001, 1000001, 1999, 4};
+    try(WATERBOOK_ACCEPTED);
+    accepted_steps();
+    give_all();
+    refused_entries(given.reading);
     for (size_t i = 0; i < 6; i++)
         try_with(&given.reading[3 + i], wrong[i], WATERBOOK_BAD_READING);
     try_with(&given.reading[9], 0x7fc00001, WATERBOOK_UNUSABLE_HEAD);
     try_with(&given.reading[9], 0x461c4001, WATERBOOK_UNUSABLE_HEAD);
     try_with(&given.reading[9], 0x7149f2ca, WATERBOOK_INACTIVE_HEAD);
-    try_shorter(&given.card_len, WATERBOOK_NOT_THE_COUNT);
     try_shorter(&given.reading_len, WATERBOOK_NOT_THE_COUNT);
-    try_shorter(&given.amounts_len, WATERBOOK_NOT_THE_COUNT);
+}
+
+static void void_cases(void) {
+    for (uint32_t delays = 0; delays <= 30; delays++) {
+        give_delays(delays);
+        try(WATERBOOK_ACCEPTED);
+    }
+    refused_entries(given.notice);
+    try_shorter(&given.notice_len, WATERBOOK_NOT_THE_COUNT);
 }
 
 static void clear_cases(void) {
@@ -362,6 +395,25 @@ static void read_reading_cases(void) {
     try_shorter(&given.got_len, WATERBOOK_NOT_THE_COUNT);
 }
 
+static void write_void_cases(void) {
+    give_longest();
+    try_room(WATERBOOK_VOID_TEXT);
+    try_shorter(&given.notice_len, WATERBOOK_NOT_THE_COUNT);
+}
+
+static void read_void_cases(void) {
+    give_longest();
+    lent = given;
+    make_write_void();
+    take_text();
+    try(WATERBOOK_ACCEPTED);
+    try_shorter(&given.text_len, WATERBOOK_MALFORMED);
+    text[10] = '0';
+    try(WATERBOOK_MALFORMED);
+    try_shorter(&given.notice_len, WATERBOOK_NOT_THE_COUNT);
+    try_shorter(&given.got_len, WATERBOOK_NOT_THE_COUNT);
+}
+
 static void write_answer_cases(void) {
     give_longest();
     try_room(WATERBOOK_ANSWER_TEXT);
@@ -383,15 +435,20 @@ static void write_sheet_cases(void) {
     try(WATERBOOK_ACCEPTED);
 }
 
-/* Readings after the card's text, one for each cell in turn, as long as there is room; the heads change. */
-static void give_readings(void) {
+/* Entries after the card's text, one for each cell in turn, as long as there is room: each eleventh is a void, and the
+ * heads of the readings change. */
+static void give_entries(void) {
     static const uint32_t heads[] = {0x410c0000, 0x41280000, 0xf149f2ca, 0x7149f2ca, 0x7fc00001};
     for (uint32_t i = 0; given.text_len + WATERBOOK_READING_TEXT <= WATERBOOK_LONGEST; i++) {
         uint32_t numbers[WATERBOOK_READING] = {i % 260, 0, i / 260, 1000000, 1000000, 1000000, 1000000, 1000000,
                                                1 + i % 3, heads[i / 7 % 5]};
         size_t got[WATERBOOK_GOT];
-        if (waterbook_write_reading(numbers, WATERBOOK_READING, text + given.text_len, WATERBOOK_READING_TEXT, got,
-                                    WATERBOOK_GOT) != WATERBOOK_ACCEPTED)
+        uint8_t *end = text + given.text_len;
+        uint32_t written =
+            i % 11 == 10
+                ? waterbook_write_void(numbers, WATERBOOK_NOTICE, end, WATERBOOK_VOID_TEXT, got, WATERBOOK_GOT)
+                : waterbook_write_reading(numbers, WATERBOOK_READING, end, WATERBOOK_READING_TEXT, got, WATERBOOK_GOT);
+        if (written != WATERBOOK_ACCEPTED)
             exit(2);
         given.text_len += got[0];
     }
@@ -409,7 +466,7 @@ static void book_cases(void) {
     given.text_len -= 1;
     try(strlen("code=12 line=257\n"));
     given.text_len += 1;
-    give_readings();
+    give_entries();
     given.buf_len = WATERBOOK_BOOK_ROOM(given.text_len);
     try(book_length());
     try_shorter(&given.buf_len, 0);
@@ -458,7 +515,7 @@ static int thread_holds(void) {
     name = "waterbook_book in a thread";
     give_all();
     give_card_text();
-    give_readings();
+    give_entries();
     size_t wanted = book_length();
     number = 0;
     if (size > MOST || pthread_attr_init(&attributes) != 0 || pthread_attr_setstack(&attributes, ground, size) != 0 ||
@@ -471,12 +528,15 @@ static int thread_holds(void) {
 int main(void) {
     lay_ground();
     int all = held("waterbook_step", WATERBOOK_STACK_STEP, make_step, step_cases);
+    all &= held("waterbook_void", WATERBOOK_STACK_VOID, make_void, void_cases);
     all &= held("waterbook_clear", WATERBOOK_STACK_CLEAR, make_clear, clear_cases);
     all &= held("waterbook_add", WATERBOOK_STACK_ADD, make_add, add_cases);
     all &= held("waterbook_read_card", WATERBOOK_STACK_READ_CARD, make_read_card, read_card_cases);
     all &= held("waterbook_write_card", WATERBOOK_STACK_WRITE_CARD, make_write_card, write_card_cases);
     all &= held("waterbook_read_reading", WATERBOOK_STACK_READ_READING, make_read_reading, read_reading_cases);
     all &= held("waterbook_write_reading", WATERBOOK_STACK_WRITE_READING, make_write_reading, write_reading_cases);
+    all &= held("waterbook_read_void", WATERBOOK_STACK_READ_VOID, make_read_void, read_void_cases);
+    all &= held("waterbook_write_void", WATERBOOK_STACK_WRITE_VOID, make_write_void, write_void_cases);
     all &= held("waterbook_write_answer", WATERBOOK_STACK_WRITE_ANSWER, make_write_answer, write_answer_cases);
     all &= held("waterbook_write_sheet", WATERBOOK_STACK_WRITE_SHEET, make_write_sheet, write_sheet_cases);
     all &= held("waterbook_book", WATERBOOK_STACK_BOOK, make_book, book_cases);

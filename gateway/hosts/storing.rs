@@ -9,7 +9,7 @@ mod waterbook;
 use second::made::dice::Dice;
 use std::ops::Range;
 use std::process::ExitCode;
-use waterbook::{Amounts, Answer, CARD, Card, ROW, Reading, Refusal, SHEET, Sheet};
+use waterbook::{Amounts, Answer, CARD, Card, Notice, ROW, Reading, Refusal, SHEET, Sheet};
 
 /// Plots of a site, days that its nodes report, sendings after which a node gives up, and the steps of a full sheet.
 const PLOTS: usize = 3;
@@ -41,6 +41,23 @@ const WRONG: [(Order, &str); 7] = [
     (Order::FullSheetForgotten, "11 not handled"),
 ];
 
+/// What a node makes of a day: a reading, or a void where its gauge froze.
+#[derive(Clone, Copy, PartialEq)]
+enum Entry {
+    Reading(Reading),
+    Void(Notice),
+}
+
+impl Entry {
+    /// The plot that it names.
+    fn plot(&self) -> usize {
+        match self {
+            Entry::Reading(reading) => reading[0] as usize,
+            Entry::Void(notice) => notice[0] as usize,
+        }
+    }
+}
+
 /// What is kept of a site from step to step.
 #[derive(Clone)]
 struct Site {
@@ -48,18 +65,18 @@ struct Site {
     sheet: Sheet,
 }
 
-/// What an accepted reading changes: its answer, the sheet that it found full, and the site after it.
+/// What an accepted entry changes: its answer, the sheet that it found full, and the site after it.
 struct Change {
-    reading: Reading,
+    entry: Entry,
     amounts: Amounts,
     full: Option<Sheet>,
     site: Site,
 }
 
 impl Site {
-    /// Step a reading and add its answer; a full sheet is put away.
-    fn step(&mut self, reading: &Reading, order: Order) -> Result<Change, Refusal> {
-        let answer = step(&mut self.rows, reading);
+    /// Step an entry and add its answer; a full sheet is put away.
+    fn step(&mut self, entry: &Entry, order: Order) -> Result<Change, Refusal> {
+        let answer = step(&mut self.rows, entry);
         let (amounts, mut full) = (answer?, None);
         if let Err(refusal) = waterbook::add(&mut self.sheet, &answer) {
             if order == Order::FullSheetForgotten {
@@ -68,7 +85,7 @@ impl Site {
             full = Some(std::mem::replace(&mut self.sheet, [0; SHEET]));
             waterbook::add(&mut self.sheet, &answer)?;
         }
-        Ok(Change { reading: *reading, amounts, full, site: self.clone() })
+        Ok(Change { entry: *entry, amounts, full, site: self.clone() })
     }
 }
 
@@ -79,15 +96,18 @@ fn card() -> Card {
     card
 }
 
-/// Step a reading.
-fn step(rows: &mut [u32], reading: &Reading) -> Answer {
+/// Step an entry.
+fn step(rows: &mut [u32], entry: &Entry) -> Answer {
     let soil = [10_000_000, 1_500_000, 200, 100_000, 80].repeat(PLOTS);
-    waterbook::step(&card(), &soil, rows, reading)
+    match entry {
+        Entry::Reading(reading) => waterbook::step(&card(), &soil, rows, reading),
+        Entry::Void(notice) => waterbook::void(&card(), &soil, rows, notice),
+    }
 }
 
-/// Where the row of a reading's plot stands.
-fn row(reading: &Reading) -> Range<usize> {
-    let start = ROW * reading[0] as usize;
+/// Where the row of an entry's plot stands.
+fn row(entry: &Entry) -> Range<usize> {
+    let start = ROW * entry.plot();
     start..start + ROW
 }
 
@@ -102,7 +122,7 @@ enum Part {
 /// What is durable: the site, all answers, and the sheets that were put away.
 struct Disk {
     site: Site,
-    book: Vec<(Reading, Amounts)>,
+    book: Vec<(Entry, Amounts)>,
     full: Vec<Sheet>,
 }
 
@@ -111,10 +131,10 @@ impl Disk {
     fn put(&mut self, part: Part, change: &Change) {
         match part {
             Part::Row => {
-                let row = row(&change.reading);
+                let row = row(&change.entry);
                 self.site.rows[row.clone()].copy_from_slice(&change.site.rows[row]);
             }
-            Part::Answer => self.book.push((change.reading, change.amounts)),
+            Part::Answer => self.book.push((change.entry, change.amounts)),
             Part::Sheet => {
                 self.full.extend(change.full);
                 self.site.sheet = change.site.sheet;
@@ -163,23 +183,23 @@ impl Gateway {
     }
 
     /// The acknowledgement of a plot: its life and next count.
-    fn acknowledged(&self, reading: &Reading) -> Option<[u32; 2]> {
-        let row = &self.memory.rows[row(reading)];
+    fn acknowledged(&self, entry: &Entry) -> Option<[u32; 2]> {
+        let row = &self.memory.rows[row(entry)];
         Some([row[0], row[1]])
     }
 
-    /// Take a reading that arrives; the acknowledgement, if one is sent.
-    fn take(&mut self, reading: &Reading, dice: &mut Dice) -> Option<[u32; 2]> {
+    /// Take an entry that arrives; the acknowledgement, if one is sent.
+    fn take(&mut self, entry: &Entry, dice: &mut Dice) -> Option<[u32; 2]> {
         let before = self.memory.clone();
         if self.cut(dice) {
             return None;
         }
-        let change = match self.memory.step(reading, self.order) {
+        let change = match self.memory.step(entry, self.order) {
             Ok(change) => change,
-            Err(Refusal::Old) => return self.acknowledged(reading),
+            Err(Refusal::Old) => return self.acknowledged(entry),
             Err(_) => return None,
         };
-        let early = self.acknowledged(reading);
+        let early = self.acknowledged(entry);
         let stored = !self.cut(dice) && self.store(&change, before, dice) && !self.cut(dice);
         if self.order == Order::AcknowledgedFirst { early } else { early.filter(|_| stored) }
     }
@@ -230,17 +250,17 @@ impl Gateway {
     }
 }
 
-/// A node: all readings that it made, how many were acknowledged, and where its present life began.
+/// A node: all entries that it made, how many were acknowledged, and where its present life began.
 #[derive(Default)]
 struct Node {
-    made: Vec<Reading>,
+    made: Vec<Entry>,
     heard: usize,
     life: u32,
     began: usize,
 }
 
 impl Node {
-    /// Make the day's reading; a fresh battery comes only when all is acknowledged.
+    /// Make the day's reading, or its void; a fresh battery comes only when all is acknowledged.
     fn make(&mut self, plot: usize, dice: &mut Dice) {
         if self.heard == self.made.len() && dice.once_in(10) {
             self.life += 1;
@@ -250,10 +270,14 @@ impl Node {
         let count = (self.made.len() - self.began) as u32;
         let turn = [plot as u32, self.life, count];
         let figures = [rain, 0, 500, 2_000, 5_000, 2, head.to_bits()];
+        if dice.once_in(8) {
+            self.made.push(Entry::Void(turn));
+            return;
+        }
         let mut reading = [0; 10];
         reading[..3].copy_from_slice(&turn);
         reading[3..].copy_from_slice(&figures);
-        self.made.push(reading);
+        self.made.push(Entry::Reading(reading));
     }
 
     /// Hear an acknowledgement of the present life.
@@ -264,15 +288,15 @@ impl Node {
     }
 }
 
-/// One sending: the oldest reading that a node has not heard of, or one of any age that the link repeats.
+/// One sending: the oldest entry that a node has not heard of, or one of any age that the link repeats.
 fn send(gateway: &mut Gateway, nodes: &mut [Node], dice: &mut Dice) {
     let node = &mut nodes[dice.place(PLOTS)];
     let place = if dice.once_in(4) { dice.place(node.heard + 1) } else { node.heard };
-    let Some(reading) = node.made.get(place).copied() else { return };
+    let Some(entry) = node.made.get(place).copied() else { return };
     if dice.once_in(4) {
         return;
     }
-    let acknowledgement = gateway.take(&reading, dice);
+    let acknowledgement = gateway.take(&entry, dice);
     if let Some(heard) = acknowledgement.filter(|_| !dice.once_in(4)) {
         node.hear(heard);
     }
@@ -283,7 +307,7 @@ fn first_sheet(dice: &mut Dice) -> Sheet {
     if dice.once_in(2) { [0; SHEET] } else { [FULL - dice.within(0, 60); SHEET] }
 }
 
-/// Keep a site to its end: its gateway, and whether the disk has each reading just once.
+/// Keep a site to its end: its gateway, and whether the disk has each entry just once.
 fn keep(order: Order, dice: &mut Dice) -> (Gateway, bool) {
     let first = first_sheet(dice);
     let mut gateway = Gateway::first(order, first);
@@ -303,14 +327,13 @@ fn keep(order: Order, dice: &mut Dice) -> (Gateway, bool) {
     (gateway, sound)
 }
 
-/// Has the disk each reading once, in its order, and are its rows and amounts those of the readings?
+/// Has the disk each entry once, in its order, and are its rows and amounts those of the entries?
 fn whole(disk: &Disk, nodes: &[Node]) -> bool {
     let mut rows = vec![0; ROW * PLOTS];
-    let stepped =
-        disk.book.iter().all(|(reading, amounts)| step(&mut rows, reading) == Ok(*amounts));
+    let stepped = disk.book.iter().all(|(entry, amounts)| step(&mut rows, entry) == Ok(*amounts));
     let made = nodes.iter().enumerate().all(|(plot, node)| {
-        let of_plot = disk.book.iter().filter(|(reading, _)| reading[0] as usize == plot);
-        of_plot.map(|(reading, _)| reading).eq(&node.made)
+        let of_plot = disk.book.iter().filter(|(entry, _)| entry.plot() == plot);
+        of_plot.map(|(entry, _)| entry).eq(&node.made)
     });
     stepped && made && rows == disk.site.rows
 }
@@ -345,10 +368,12 @@ fn main() -> ExitCode {
     let (cuts, lost) = (all(|gateway| gateway.mishaps.cuts), all(|gateway| gateway.mishaps.lost));
     let (durable, full) =
         (all(|gateway| gateway.mishaps.durable), all(|gateway| gateway.disk.full.len()));
-    let readings = *sites as usize * PLOTS * DAYS;
-    println!("storing: {sites} sites, {readings} readings, {full} full sheets, {cuts} cuts");
+    let entries = *sites as usize * PLOTS * DAYS;
+    println!(
+        "storing: {sites} sites, {entries} readings and voids, {full} full sheets, {cuts} cuts"
+    );
     println!("storing: {lost} stores failed with nothing durable, {durable} with all of it");
-    println!("storing: {} sites lost or doubled a reading", unsound(&right));
+    println!("storing: {} sites lost or doubled an entry", unsound(&right));
     let mut sound =
         unsound(&right) == 0 && [cuts, lost, durable, full].iter().all(|times| *times > 0);
     for (order, name) in WRONG {

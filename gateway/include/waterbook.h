@@ -28,7 +28,7 @@
  *    4  cn       curve number of the ground at normal moisture, 1..100
  *
  * rows: 32 numbers per cell, cell 0 first; kept by the host from call to call.
- *    0        life of the node's battery at the last accepted reading, 0..65,535
+ *    0        life of the node's battery at the last accepted reading or void, 0..65,535
  *    1        next count: the count that is due, 0..1,000,000
  *    2..31    slots 1..30: slot k holds water in µm due in k accepted steps, at most 2,000,000 x (M - k + 1);
  *             slots above M hold 0
@@ -45,6 +45,11 @@
  *    8  amc      moisture before the storm: 1 dry, 2 normal, 3 wet
  *    9  head     the 32 bits of a float: height of the water table in metres, at most 10,000 in size;
  *                f149f2ca means dry, 7149f2ca inactive
+ *
+ * notice: 3 numbers. A void is the notice that a day's reading will never come.
+ *    0  cell     which plot, from 0
+ *    1  life     the battery's life, 0..65,535
+ *    2  count    the place in this life that it uses up, 0..999,999
  *
  * amounts: the 10 amounts of an answer, in µm. None but recharge is ever negative.
  *    0  inflow    rain + irrig + septic
@@ -68,12 +73,15 @@
  *
  * Texts: pairs key=value, each number in plain decimals without leading zeros (top and recharge may have a minus), the
  * head as 8 hex digits in small letters; one space between two pairs, one LF at each line's end. docs/JOURNAL.md in the
- * repository has it to the byte. The line of a card, of soil numbers, of a reading, of its answer, of the sheet then:
+ * repository has it to the byte. The line of a card, of soil numbers, of a reading, of a void, of the answers to these
+ * two, and of the sheet then:
  *    cells=1 delays=2 depth=1000000 depth=2000000
  *    top=10000000 etdepth=1500000 vadpor=200 leak=100000 cn=80
  *    cell=0 life=0 count=0 rain=2090 irrig=0 septic=0 etmin=2000 pet=5000 amc=2 head=410c0000
+ *    void cell=0 life=0 count=1
  *    cell=0 code=0 inflow=2090 runoff=0 etvad=2000 etstor=0 etsat=500 drain=0 release=0 stored=90 recharge=-500 left=90
- *    steps=1 inflow=2090 runoff=0 etvad=2000 etstor=0 etsat=500 drain=0 release=0 stored=90 recharge=-500
+ *    cell=0 code=0 inflow=0 runoff=0 etvad=0 etstor=0 etsat=0 drain=0 release=90 stored=0 recharge=90 left=0
+ *    steps=2 inflow=2090 runoff=0 etvad=2000 etstor=0 etsat=500 drain=0 release=90 stored=90 recharge=-410
  *
  * The number that a call returns is one of enum waterbook_number below.
  */
@@ -87,12 +95,13 @@
 extern "C" {
 #endif
 
-/* The version. MAJOR rises where a call answers the same numbers in another way than before, or where a call, a width
- * or a constant goes or changes its meaning: look at the host again. MINOR rises where a call or constant comes, or a
- * room or stack stated below grows: build the host again. PATCH rises where none of this is so, as for speed. */
+/* The version. MAJOR rises where a call answers what it took before in another way, or where a call, a width or a
+ * constant goes or changes its meaning: look at the host again. MINOR rises where a call or constant comes, a text is
+ * taken that was malformed before, or a room or stack stated below grows: build the host again. PATCH rises where none
+ * of this is so, as for speed. */
 #define WATERBOOK_VERSION_MAJOR 2
-#define WATERBOOK_VERSION_MINOR 0
-#define WATERBOOK_VERSION_PATCH 1
+#define WATERBOOK_VERSION_MINOR 1
+#define WATERBOOK_VERSION_PATCH 0
 #define WATERBOOK_VERSION \
     (1000000 * WATERBOOK_VERSION_MAJOR + 1000 * WATERBOOK_VERSION_MINOR + WATERBOOK_VERSION_PATCH)
 
@@ -113,7 +122,8 @@ enum waterbook_number {
     WATERBOOK_OLD = 6,
     /* Gap: the life is the same with a count higher than next, or higher with a count that is not 0. */
     WATERBOOK_GAP = 7,
-    /* Another field of the reading is out of range, life and count included, or etmin is above pet. */
+    /* Another field of the reading is out of range, life and count included, or etmin is above pet; a void's life or
+     * count is out of range. */
     WATERBOOK_BAD_READING = 8,
     /* The head is no number, or above 10,000 m in size and is neither mark. */
     WATERBOOK_UNUSABLE_HEAD = 9,
@@ -123,7 +133,8 @@ enum waterbook_number {
     WATERBOOK_NOT_ADDABLE = 11,
     /* The text is malformed, or there is nothing that can be written. */
     WATERBOOK_MALFORMED = 12,
-    /* A card, reading, amounts, sheet or got slice has another count of numbers than its own; nothing is changed. */
+    /* A card, reading, notice, amounts, sheet or got slice has another count of numbers than its own; nothing is
+     * changed. */
     WATERBOOK_NOT_THE_COUNT = 255
 };
 
@@ -133,6 +144,7 @@ enum {
     WATERBOOK_SOIL = 5,
     WATERBOOK_ROW = 32,
     WATERBOOK_READING = 10,
+    WATERBOOK_NOTICE = 3,
     WATERBOOK_AMOUNTS = 10,
     WATERBOOK_SHEET = 10,
     WATERBOOK_GOT = 2,
@@ -146,8 +158,9 @@ enum {
 enum {
     /* The card text of 256 cells and 30 delays. */
     WATERBOOK_CARD_TEXT = 24082,
-    /* The line of a reading, of an answer, of a sheet. */
+    /* The line of a reading, of a void, of an answer, of a sheet. */
     WATERBOOK_READING_TEXT = 161,
+    WATERBOOK_VOID_TEXT = 54,
     WATERBOOK_ANSWER_TEXT = 292,
     WATERBOOK_SHEET_TEXT = 270
 };
@@ -161,12 +174,15 @@ enum {
  *   -z now, or statically. */
 enum {
     WATERBOOK_STACK_STEP = 832,
+    WATERBOOK_STACK_VOID = 832,
     WATERBOOK_STACK_CLEAR = 192,
     WATERBOOK_STACK_ADD = 208,
     WATERBOOK_STACK_READ_CARD = 1088,
     WATERBOOK_STACK_WRITE_CARD = 1920,
     WATERBOOK_STACK_READ_READING = 512,
     WATERBOOK_STACK_WRITE_READING = 896,
+    WATERBOOK_STACK_READ_VOID = 320,
+    WATERBOOK_STACK_WRITE_VOID = 800,
     WATERBOOK_STACK_WRITE_ANSWER = 1600,
     WATERBOOK_STACK_WRITE_SHEET = 1536,
     WATERBOOK_STACK_BOOK = 45056
@@ -179,14 +195,27 @@ enum {
  * applies is returned. So a life or count out of range that is a gap as well gives 7.
  * Accepted (0): the row of the reading's cell is the row after the step, no other number of rows changes,
  * and amounts holds the ten amounts. Refused (1..10): rows stays as it came and amounts holds ten zeros.
- * A reading refused with 8, 9 or 10 does not use up its count: a corrected one may follow. */
+ * A reading refused with 8, 9 or 10 does not use up its count: a corrected one may follow, or a void. */
 uint32_t waterbook_step(const uint32_t *card, size_t card_len,
                         const int64_t *soil, size_t soil_len,
                         uint32_t *rows, size_t rows_len,
                         const uint32_t *reading, size_t reading_len,
                         int64_t *amounts, size_t amounts_len);
 
-/* Sets all rows of the site to 0, as they must be before the first reading. Returns 0, 1, 2 or 255;
+/* One void of the site, in place of a reading that will never come. Returns 0..8 or 255, in the order of
+ * waterbook_step; 8 is looked at for life and count only, so a void in order, its life and count in range, is accepted
+ * whatever the day was.
+ * Accepted (0): the waiting water of the notice's cell moves on by one step, release is what was due, recharge is the
+ * release, left is what still waits, all other amounts are 0; the row has the notice's life and count + 1, and no other
+ * row changes. It is a step like any other: waterbook_add takes its answer.
+ * Refused (1..8): rows stays as it came and amounts holds ten zeros. */
+uint32_t waterbook_void(const uint32_t *card, size_t card_len,
+                        const int64_t *soil, size_t soil_len,
+                        uint32_t *rows, size_t rows_len,
+                        const uint32_t *notice, size_t notice_len,
+                        int64_t *amounts, size_t amounts_len);
+
+/* Sets all rows of the site to 0, as they must be before the first reading or void. Returns 0, 1, 2 or 255;
  * where it is not 0, rows stays as it came. */
 uint32_t waterbook_clear(const uint32_t *card, size_t card_len,
                          uint32_t *rows, size_t rows_len);
@@ -229,7 +258,20 @@ uint32_t waterbook_write_reading(const uint32_t *reading, size_t reading_len,
                                  uint8_t *buf, size_t buf_len,
                                  size_t *got, size_t got_len);
 
-/* Writes the line that waterbook prints for an answer: the reading's cell, the number that the step returned and its
+/* Reads the line of one void with its LF; nothing after it is looked at. Returns 0, 12 or 255.
+ * Refused (12): notice holds zeros, no bytes are taken, the malformed line is 1. No text is both a reading and a
+ * void. */
+uint32_t waterbook_read_void(const uint8_t *text, size_t text_len,
+                             uint32_t *notice, size_t notice_len,
+                             size_t *got, size_t got_len);
+
+/* Writes the line of a void, any three numbers, at the start of buf; no byte after it changes.
+ * Returns 0, 12 (buf too short, and it stays as it came) or 255. */
+uint32_t waterbook_write_void(const uint32_t *notice, size_t notice_len,
+                              uint8_t *buf, size_t buf_len,
+                              size_t *got, size_t got_len);
+
+/* Writes the line that waterbook prints for an answer: the entry's cell, the number that the step returned and its
  * amounts. It goes to the start of buf, and no byte after it changes. Returns 0, 12 or 255. 12, with buf as it came:
  * buf is too short, or no step gives such an answer, since the number is above 10, or it is not 0 and an amount
  * is not 0 either, or an amount but recharge is negative. */
@@ -244,8 +286,8 @@ uint32_t waterbook_write_sheet(const int64_t *sheet, size_t sheet_len,
                                uint8_t *buf, size_t buf_len,
                                size_t *got, size_t got_len);
 
-/* Writes at the start of buf all that the program waterbook prints for this journal (a card text, then
- * readings), and returns its length; no byte after it changes. A buf with less room than
+/* Writes at the start of buf all that the program waterbook prints for this journal (a card text, then readings
+ * and voids), and returns its length; no byte after it changes. A buf with less room than
  * WATERBOOK_BOOK_ROOM(journal_len) stays as it came, and 0 is returned; a book is never empty. The book of a journal
  * with more than WATERBOOK_LONGEST bytes is `code=12 line=0`, and of one whose card is refused with 1, `code=1`. */
 size_t waterbook_book(const uint8_t *journal, size_t journal_len,

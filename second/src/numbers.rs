@@ -32,6 +32,24 @@ pub struct Reading {
     pub head: u32,
 }
 
+/// The turn that a reading or a void claims: its cell, the battery's life and the count in it.
+#[derive(Clone, Copy, Debug, Default, PartialEq, Eq)]
+pub struct Turn {
+    pub cell: u32,
+    pub life: u32,
+    pub count: u32,
+}
+
+/// A void: the notice that no figures come for a turn.
+pub type Void = Turn;
+
+/// What a line of a journal after its card says.
+#[derive(Clone, Copy, Debug, PartialEq, Eq)]
+pub enum Entry {
+    Reading(Reading),
+    Void(Void),
+}
+
 /// The ten amounts of an answer, in micrometres over the cell.
 #[derive(Clone, Copy, Debug, Default, PartialEq, Eq)]
 pub struct Amounts {
@@ -72,6 +90,23 @@ impl Card {
             && self.used().iter().all(|d| (1..=1_000_000_000).contains(d))
             && self.used().windows(2).all(|pair| pair[0] < pair[1])
             && self.unused().iter().all(|d| *d == 0)
+    }
+}
+
+impl Reading {
+    /// The turn that the reading claims.
+    pub fn turn(&self) -> Turn {
+        Turn { cell: self.cell, life: self.life, count: self.count }
+    }
+}
+
+impl Entry {
+    /// The turn that the entry claims.
+    pub fn turn(&self) -> Turn {
+        match self {
+            Entry::Reading(reading) => reading.turn(),
+            Entry::Void(void) => *void,
+        }
     }
 }
 
@@ -117,11 +152,15 @@ pub fn row_in_range(row: &[u32], delays: u32) -> bool {
         && (1..=30).all(|k| row[1 + k as usize] <= slot_limit(k, delays))
 }
 
+/// Life and count in their ranges.
+pub fn turn_in_range(turn: &Turn) -> bool {
+    turn.life <= 65_535 && turn.count <= 999_999
+}
+
 /// The reading's whole-number fields but the cell number, and etmin against pet.
 pub fn fields_in_range(r: &Reading) -> bool {
     let waters = [r.rain, r.irrig, r.septic, r.etmin, r.pet];
-    r.life <= 65_535
-        && r.count <= 999_999
+    turn_in_range(&r.turn())
         && waters.iter().all(|w| *w <= MOST)
         && r.etmin <= r.pet
         && (1..=3).contains(&r.amc)

@@ -1,4 +1,4 @@
-//! "One accepted step": steps 1 to 11 in the page's order, each by itself.
+//! "One accepted step": steps 1 to 11 in the page's order, each by itself; a void is step 1 alone.
 //! All amounts are whole micrometres; d is the depth, k the delay.
 
 use crate::numbers::{Amounts, Card, Reading, ROOM};
@@ -149,4 +149,10 @@ pub fn day(card: &Card, soil: &[i64], slots: &mut Slots, r: &Reading, d: i64) ->
     let inflow = g + septic;
     let left = slots.iter().sum();
     Amounts { inflow, runoff, etvad, etstor, etsat, drain, release, stored, recharge, left }
+}
+
+/// A day without figures: the queue shifts, and what it releases is the recharge.
+pub fn void_day(card: &Card, slots: &mut Slots) -> Amounts {
+    let release = shift(slots, card.delays as usize);
+    Amounts { release, recharge: release, left: slots.iter().sum(), ..Amounts::default() }
 }

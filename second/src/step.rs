@@ -1,9 +1,9 @@
-//! "Refusal numbers, in the order of the checks": clearing and the site step.
+//! "Refusal numbers, in the order of the checks": clearing, and the site's readings and voids.
 
 use crate::head::{depth, head, Head};
-use crate::numbers::{fields_in_range, row_in_range, soil_in_range};
-use crate::numbers::{Amounts, Card, Reading, ROOM, ROW, SOIL};
-use crate::rules::{day, Slots};
+use crate::numbers::{fields_in_range, row_in_range, soil_in_range, turn_in_range};
+use crate::numbers::{Amounts, Card, Entry, Reading, Turn, Void, ROOM, ROW, SOIL};
+use crate::rules::{day, void_day, Slots};
 
 /// Set all rows of the site to 0; knows numbers 1 and 2 only.
 pub fn clear(card: &Card, rows: &mut [u32]) -> u32 {
@@ -17,6 +17,14 @@ pub fn clear(card: &Card, rows: &mut [u32]) -> u32 {
     0
 }
 
+/// One entry of the site, a reading or a void: its number and its ten amounts.
+pub fn enter(card: &Card, soil: &[i64], rows: &mut [u32], entry: &Entry) -> (u32, Amounts) {
+    match entry {
+        Entry::Reading(reading) => step(card, soil, rows, reading),
+        Entry::Void(notice) => void(card, soil, rows, notice),
+    }
+}
+
 /// One reading of the site: its number and its ten amounts.
 pub fn step(card: &Card, soil: &[i64], rows: &mut [u32], r: &Reading) -> (u32, Amounts) {
     let number = check(card, soil, rows, r);
@@ -27,13 +35,40 @@ pub fn step(card: &Card, soil: &[i64], rows: &mut [u32], r: &Reading) -> (u32, A
     let plot = &soil[SOIL * cell..SOIL * (cell + 1)];
     let row = &mut rows[ROW * cell..ROW * (cell + 1)];
     match depth(plot[0], r.head) {
-        Some(d) => (0, accept(card, plot, row, r, d)),
+        Some(d) => (0, accept(row, r.turn(), |slots| day(card, plot, slots, r, d))),
         None => unreachable!("checks 9 and 10 let only levels and dry heads by"),
     }
 }
 
-/// The ten checks in their order; the first one met gives the number.
+/// One void of the site: its number and its ten amounts.
+pub fn void(card: &Card, soil: &[i64], rows: &mut [u32], v: &Void) -> (u32, Amounts) {
+    let refused = check_void(card, soil, rows, v);
+    if refused != 0 {
+        return (refused, Amounts::default());
+    }
+    let cell = v.cell as usize;
+    let row = &mut rows[ROW * cell..ROW * (cell + 1)];
+    (0, accept(row, *v, |slots| void_day(card, slots)))
+}
+
+/// The ten checks of a reading in their order; the first one met gives the number.
 pub fn check(card: &Card, soil: &[i64], rows: &[u32], r: &Reading) -> u32 {
+    match check_site(card, soil, rows, &r.turn()) {
+        0 => check_fields(r),
+        number => number,
+    }
+}
+
+/// The checks of a void: 1 to 7, and of check 8 the ranges of life and count.
+pub fn check_void(card: &Card, soil: &[i64], rows: &[u32], v: &Void) -> u32 {
+    match check_site(card, soil, rows, v) {
+        0 if !turn_in_range(v) => 8,
+        number => number,
+    }
+}
+
+/// Checks 1 to 7, the same for a reading and a void.
+fn check_site(card: &Card, soil: &[i64], rows: &[u32], turn: &Turn) -> u32 {
     if !card.in_range() {
         return 1;
     }
@@ -41,10 +76,10 @@ pub fn check(card: &Card, soil: &[i64], rows: &[u32], r: &Reading) -> u32 {
     if soil.len() != SOIL * cells || rows.len() != ROW * cells {
         return 2;
     }
-    if r.cell >= card.cells {
+    if turn.cell >= card.cells {
         return 3;
     }
-    let cell = r.cell as usize;
+    let cell = turn.cell as usize;
     if !soil_in_range(&soil[SOIL * cell..SOIL * (cell + 1)]) {
         return 4;
     }
@@ -52,17 +87,17 @@ pub fn check(card: &Card, soil: &[i64], rows: &[u32], r: &Reading) -> u32 {
     if !row_in_range(row, card.delays) {
         return 5;
     }
-    check_turn(row[0], row[1], r)
+    check_turn(row[0], row[1], turn)
 }
 
-/// Checks 6 and 7: is it this reading's turn?
-fn check_turn(life: u32, next: u32, r: &Reading) -> u32 {
-    if r.life < life || (r.life == life && r.count < next) {
+/// Checks 6 and 7: is the claimed turn the one that is due?
+fn check_turn(life: u32, next: u32, turn: &Turn) -> u32 {
+    if turn.life < life || (turn.life == life && turn.count < next) {
         6
-    } else if (r.life == life && r.count > next) || (r.life > life && r.count != 0) {
+    } else if (turn.life == life && turn.count > next) || (turn.life > life && turn.count != 0) {
         7
     } else {
-        check_fields(r)
+        0
     }
 }
 
@@ -78,15 +113,15 @@ fn check_fields(r: &Reading) -> u32 {
     }
 }
 
-/// Work an accepted reading into the row of its cell.
-fn accept(card: &Card, plot: &[i64], row: &mut [u32], r: &Reading, d: i64) -> Amounts {
+/// Work a day into the row of its cell and use up its turn.
+fn accept(row: &mut [u32], turn: Turn, day: impl FnOnce(&mut Slots) -> Amounts) -> Amounts {
     let mut slots: Slots = [0; ROOM];
     for (slot, kept) in slots.iter_mut().zip(&row[2..]) {
         *slot = i64::from(*kept);
     }
-    let amounts = day(card, plot, &mut slots, r, d);
-    row[0] = r.life;
-    row[1] = r.count + 1;
+    let amounts = day(&mut slots);
+    row[0] = turn.life;
+    row[1] = turn.count + 1;
     for (kept, slot) in row[2..].iter_mut().zip(&slots) {
         *kept = *slot as u32;
     }

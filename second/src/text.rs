@@ -1,6 +1,6 @@
-//! "Text": cards, readings, answers and sheets as lines of key=value pairs.
+//! "Text": cards, readings, voids, answers and sheets as lines of key=value pairs.
 
-use crate::numbers::{Amounts, Card, Reading, SOIL};
+use crate::numbers::{Amounts, Card, Entry, Reading, Turn, Void, SOIL};
 use crate::sheet::Sheet;
 use std::str::FromStr;
 
@@ -10,7 +10,7 @@ pub const NAMES: [&str; 10] = [
     "left",
 ];
 
-/// What a reader hands back beside its card or reading.
+/// What a reader hands back beside its card, reading or void.
 #[derive(Clone, Copy, Debug, PartialEq, Eq)]
 pub struct Taken {
     pub number: u32,
@@ -84,13 +84,22 @@ fn soil_line(line: &[u8]) -> Option<[i64; SOIL]> {
     words.next().is_none().then_some(soil)
 }
 
+/// The pairs of a turn, with which a reading's line begins and a void's goes on.
+fn turn_pairs<'a>(words: &mut impl Iterator<Item = &'a [u8]>) -> Option<Turn> {
+    let cell = decimal(words, "cell")?;
+    let life = decimal(words, "life")?;
+    let count = decimal(words, "count")?;
+    Some(Turn { cell, life, count })
+}
+
 /// The line of one reading.
 fn reading_line(line: &[u8]) -> Option<Reading> {
     let mut words = words(line);
+    let Turn { cell, life, count } = turn_pairs(&mut words)?;
     let reading = Reading {
-        cell: decimal(&mut words, "cell")?,
-        life: decimal(&mut words, "life")?,
-        count: decimal(&mut words, "count")?,
+        cell,
+        life,
+        count,
         rain: decimal(&mut words, "rain")?,
         irrig: decimal(&mut words, "irrig")?,
         septic: decimal(&mut words, "septic")?,
@@ -100,6 +109,16 @@ fn reading_line(line: &[u8]) -> Option<Reading> {
         head: head_bits(&mut words)?,
     };
     words.next().is_none().then_some(reading)
+}
+
+/// The line of one void: the word itself, then its turn.
+fn void_line(line: &[u8]) -> Option<Void> {
+    let mut words = words(line);
+    if words.next()? != b"void" {
+        return None;
+    }
+    let void = turn_pairs(&mut words)?;
+    words.next().is_none().then_some(void)
 }
 
 /// Card, soil numbers and bytes of a card text, or the malformed line.
@@ -130,13 +149,31 @@ pub fn read_card(text: &[u8], soil: &mut [i64]) -> (Taken, Card) {
     }
 }
 
+/// Read the first line as one kind of entry; zeros where it is none.
+fn read_line<T: Default>(text: &[u8], kind: fn(&[u8]) -> Option<T>) -> (Taken, T) {
+    let line = first_line(text);
+    match line.and_then(|line| Some((kind(line)?, line.len() + 1))) {
+        Some((read, bytes)) => (Taken { number: 0, bytes, line: 0 }, read),
+        None => (malformed(1), T::default()),
+    }
+}
+
 /// Read one reading, one line long.
 pub fn read_reading(text: &[u8]) -> (Taken, Reading) {
-    let line = first_line(text);
-    match line.and_then(|line| Some((reading_line(line)?, line.len() + 1))) {
-        Some((reading, bytes)) => (Taken { number: 0, bytes, line: 0 }, reading),
-        None => (malformed(1), Reading::default()),
-    }
+    read_line(text, reading_line)
+}
+
+/// Read one void, one line long.
+pub fn read_void(text: &[u8]) -> (Taken, Void) {
+    read_line(text, void_line)
+}
+
+/// Read one line of a journal, with its bytes; none where it is neither a reading nor a void.
+pub fn read_entry(text: &[u8]) -> Option<(Entry, usize)> {
+    let line = first_line(text)?;
+    let reading = reading_line(line).map(Entry::Reading);
+    let entry = reading.or_else(|| void_line(line).map(Entry::Void))?;
+    Some((entry, line.len() + 1))
 }
 
 /// Put a text at the buffer's start: number and length.
@@ -189,13 +226,23 @@ fn card_text(card: &Card, soil: &[i64]) -> String {
     text
 }
 
+/// The pairs of a turn as text.
+fn turn_text(turn: &Turn) -> String {
+    format!("cell={} life={} count={}", turn.cell, turn.life, turn.count)
+}
+
 /// Write a reading: number and length.
 pub fn write_reading(r: &Reading, buffer: &mut [u8]) -> (u32, usize) {
-    let turn = format!("cell={} life={} count={}", r.cell, r.life, r.count);
+    let turn = turn_text(&r.turn());
     let waters = format!("rain={} irrig={} septic={}", r.rain, r.irrig, r.septic);
     let plants = format!("etmin={} pet={}", r.etmin, r.pet);
     let text = format!("{turn} {waters} {plants} amc={} head={:08x}\n", r.amc, r.head);
     put(&text, buffer)
+}
+
+/// Write a void: number and length.
+pub fn write_void(v: &Void, buffer: &mut [u8]) -> (u32, usize) {
+    put(&format!("void {}\n", turn_text(v)), buffer)
 }
 
 /// The line of an answer: cell as read, number, ten amounts.

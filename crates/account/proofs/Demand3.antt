@@ -1,28 +1,31 @@
 -- DEMAND 3. For any plot of a site, from its cleared row, over the answers that the site's step gave to any calls in any order, refused ones and other plots' among them. Assumes nothing.
-use mathlib.Core.Path.{_≡_, refl, sym, _∙_}
+use mathlib.Core.Path.{_≡_, refl, sym, ap, _∙_}
 use mathlib.Core.Bool.{true, _&&_}
 use mathlib.Core.Logic.{inr}
-use mathlib.Core.List.{List, [], _∷_}
-use Prim.Native.Nat.{ℕ, zero, suc, _<_, min}
+use mathlib.Core.List.{List, [], _∷_, _++_}
+use Prim.Native.Nat.{ℕ, zero, suc, _+_, _-_, _<_, min}
 use lib.IntN.{ℤ, pos}
 use lib.ListN.{take, drop, getD, replicate}
-use Rattle.head.specs.Class.{classOf}
+use Rattle.cell.specs.declared.Amounts.{Amounts}
 use Rattle.cell.specs.declared.Answer.{Answer}
 use Rattle.cell.specs.declared.Answer.the-variants.{Accepted}
 use Rattle.cell.specs.declared.Card.{Card}
 use Rattle.cell.specs.declared.Depth.{Depth}
-use Rattle.cell.specs.declared.Reading.{Reading}
+use Rattle.cell.specs.declared.Entry.{Entry}
+use Rattle.cell.specs.declared.Notice.{Notice}
 use Rattle.cell.specs.declared.checks.Verdict.the-variants.{Fine}
-use Rattle.cell.specs.Ranges.{cardOk, soilOk, soilOf, rowOk, fieldsOk, lifeOf, nextOf, queueOf}
+use Rattle.cell.specs.Ranges.{cardOk, soilOk, soilOf, rowOk, noticeOk, noticeOf, cellOf, lifeOf, nextOf, queueOf}
 use Rattle.cell.specs.RangeLaws.{cleared-queue}
-use Rattle.cell.specs.Refusals.{sounded}
+use Rattle.cell.specs.Refusals.{fieldsVerdict}
 use Rattle.cell.specs.CheckLaws.{InOrder, order-old, order-gap}
-use Rattle.cell.specs.Step.{stepAmounts}
-use Rattle.cell.specs.AnswerLaws.{lets-through, moves}
-use Rattle.site.specs.Rows.{partAt}
-use Rattle.site.specs.Site.{soilWidth, rowWidth, soilFits, rowsFit, cellFits, siteAnswer, siteRows, ClearGives}
-use Rattle.site.specs.SiteLaws.{gives, reached, cleared-part}
-use Rattle.account.specs.Ledger.{Kept, InSequence}
+use Rattle.cell.specs.Step.{amountsBy, shiftAmounts, answerOf, stepDelay}
+use Rattle.cell.specs.AnswerLaws.{lets-through, moves, void-through, void-row, void-amounts, void-draws}
+use Rattle.cell.specs.Queue.{slot, just, shifted}
+use Rattle.cell.specs.QueueLaws.{just-none, just-same}
+use Rattle.site.specs.Rows.{partAt, putAt}
+use Rattle.site.specs.Site.{soilWidth, rowWidth, soilFits, rowsFit, cellFits, siteAnswer, siteRows, SiteGives, ClearGives}
+use Rattle.site.specs.SiteLaws.{gives, reached, rows-reached, cleared-part}
+use Rattle.account.specs.Ledger.{Kept, InSequence, put, drew, freed}
 use Rattle.account.specs.Run.{Call, Ran, done, then, rowOf, stepOf, historyOf}
 use Rattle.account.proofs.Induction.{start, step, along}
 use Rattle.account.proofs.Order.{Ordered, begins, goes-on}
@@ -32,7 +35,7 @@ use Rattle.account.proofs.Order.{Ordered, begins, goes-on}
 pub demand3 : (card : Card) (p : ℕ) {rows after : List ℕ} {cs : List Call} {answers : List Answer} → rowOf p rows ≡ replicate rowWidth 0
     → (ran : Ran card rows cs answers after) → Kept (historyOf p [] ran) (queueOf (card .delays) (rowOf p after))
 demand3 card p e ran =
-    along card p (λ h row. Kept h (queueOf (card .delays) row)) (λ h soil row r a i. step (stepOf card soil row r a) (moves card soil row r a i)) [] ran
+    along card p (λ h row. Kept h (queueOf (card .delays) row)) (λ h soil row i a e. step (stepOf card soil row i a) (moves card soil row i a e)) [] ran
     (rw (e, cleared-queue (card .delays)) (start (min (card .delays) 30)))
 
 -- the same from rows that `site::clear` has cleared
@@ -44,8 +47,8 @@ after-clearing card p {rows} g h ran = demand3 card p (rw (g .rows-are) (cleared
 pub some-run : (card : Card) (rows : List ℕ) (cs : List Call) → (answers : List Answer) × (after : List ℕ) × Ran card rows cs answers after
 some-run card rows [] = ([], rows, done)
 some-run card rows (c ∷ cs) =
-    let m = some-run card (siteRows card (c .soil) rows (c .reading)) cs in
-    (siteAnswer card (c .soil) rows (c .reading) ∷ m .0, m .1, then (gives card (c .soil) rows (c .reading) refl refl) (m .2))
+    let m = some-run card (siteRows card (c .soil) rows (c .entry)) cs in
+    (siteAnswer card (c .soil) rows (c .entry) ∷ m .0, m .1, then (gives card (c .soil) rows (c .entry) refl refl) (m .2))
 
 -- at each moment: the first k calls and their answers are such a run from the same rows, and the rest is one from the rows that it left
 pub each-moment : (k : ℕ) {card : Card} {rows after : List ℕ} {cs : List Call} {answers : List Answer} → Ran card rows cs answers after
@@ -60,15 +63,40 @@ pub in-order : (card : Card) (p : ℕ) {rows after : List ℕ} {cs : List Call} 
 in-order card p e ran = along card p Ordered (goes-on card) [] ran (rw e begins) .0
 
 -- a fresh life is accepted from count 0, whatever the old count was: the only checks left are those that do not look at lives and counts
-pub fresh-life : (card : Card) (soil : List ℤ) (rows : List ℕ) (r : Reading) (d : Depth)
-    → cardOk card ≡ true → (soilFits card soil && rowsFit card rows) ≡ true → cellFits card r ≡ true
-    → soilOk (partAt soilWidth (r .cell) soil) ≡ true → rowOk (card .delays) (rowOf (r .cell) rows) ≡ true → fieldsOk r ≡ true
-    → sounded (getD (partAt soilWidth (r .cell) soil) 0 (pos 0)) (classOf (r .head)) ≡ Fine d
-    → lifeOf (rowOf (r .cell) rows) < r .life → r .count ≡ 0
-    → siteAnswer card soil rows r ≡ Accepted (stepAmounts card (soilOf (partAt soilWidth (r .cell) soil)) r d (queueOf (card .delays) (rowOf (r .cell) rows)))
-fresh-life card soil rows r d c l k s w f g young zero-count =
-    let row = rowOf (r .cell) rows in
-    let o : InOrder (lifeOf row) (nextOf row) r = inr (young, zero-count) in
-    reached card soil rows r l k
-    ∙ lets-through card (partAt soilWidth (r .cell) soil) row r d
-    (record { card-ok = c; soil-ok = s; row-ok = w; not-old = order-old (lifeOf row) (nextOf row) r o; not-gap = order-gap (lifeOf row) (nextOf row) r o; fields-ok = f; head-ok = g })
+pub fresh-life : (card : Card) (soil : List ℤ) (rows : List ℕ) (i : Entry) (d : Depth)
+    → cardOk card ≡ true → (soilFits card soil && rowsFit card rows) ≡ true → cellFits card i ≡ true
+    → soilOk (partAt soilWidth (cellOf i) soil) ≡ true → rowOk (card .delays) (rowOf (cellOf i) rows) ≡ true
+    → fieldsVerdict (getD (partAt soilWidth (cellOf i) soil) 0 (pos 0)) i ≡ Fine d
+    → lifeOf (rowOf (cellOf i) rows) < noticeOf i .life → noticeOf i .count ≡ 0
+    → siteAnswer card soil rows i ≡ Accepted (amountsBy card (soilOf (partAt soilWidth (cellOf i) soil)) i d (queueOf (card .delays) (rowOf (cellOf i) rows)))
+fresh-life card soil rows i d c l k s w f young zero-count =
+    let row = rowOf (cellOf i) rows in
+    let o : InOrder (lifeOf row) (nextOf row) (noticeOf i) = inr (young, zero-count) in
+    reached card soil rows i l k
+    ∙ lets-through card (partAt soilWidth (cellOf i) soil) row i d
+    (record { card-ok = c; soil-ok = s; row-ok = w; not-old = order-old (lifeOf row) (nextOf row) (noticeOf i) o; not-gap = order-gap (lifeOf row) (nextOf row) (noticeOf i) o; fields-fine = f })
+
+-- [3] a void is never in the way: with its life and count in range and in order it is accepted, whatever the day was; the queue shifts and the count is used up
+pub void-passes : (card : Card) (soil : List ℤ) (rows : List ℕ) (n : Notice)
+    → cardOk card ≡ true → (soilFits card soil && rowsFit card rows) ≡ true → cellFits card (Entry.Void n) ≡ true
+    → soilOk (partAt soilWidth (n .cell) soil) ≡ true → rowOk (card .delays) (rowOf (n .cell) rows) ≡ true
+    → noticeOk n ≡ true → InOrder (lifeOf (rowOf (n .cell) rows)) (nextOf (rowOf (n .cell) rows)) n
+    → SiteGives card soil rows (Entry.Void n) (Accepted (shiftAmounts (queueOf (card .delays) (rowOf (n .cell) rows))))
+    (putAt rowWidth (n .cell) (n .life ∷ (n .count + 1) ∷ (shifted (queueOf (card .delays) (rowOf (n .cell) rows)) ++ drop (card .delays) (drop 2 (rowOf (n .cell) rows)))) rows)
+void-passes card soil rows n c l k s w f o =
+    let own = partAt soilWidth (n .cell) soil in
+    let row = rowOf (n .cell) rows in
+    gives card soil rows (Entry.Void n)
+    (sym (reached card soil rows (Entry.Void n) l k ∙ void-through card own row n c s w f o))
+    (sym (rows-reached card soil rows (Entry.Void n) l k ∙ ap (λ (t : List ℕ). putAt rowWidth (n .cell) t rows) (void-row card own row n c s w f o)))
+
+-- and its step puts nothing into any group and draws from none; the group whose step it is, which stood in slot 1, is released
+pub void-step : (card : Card) (soil : List ℤ) (row : List ℕ) (n : Notice) (a : Amounts) → answerOf card soil row (Entry.Void n) ≡ Accepted a → (k t : ℕ)
+    → (put k (stepOf card soil row (Entry.Void n) a) t ≡ 0) × (drew k (stepOf card soil row (Entry.Void n) a) t ≡ 0)
+    × (freed k (stepOf card soil row (Entry.Void n) a) k ≡ slot (queueOf (card .delays) row) 1)
+void-step card soil row n a e k t =
+    let d = stepDelay card soil row (Entry.Void n) in (
+      ap (just (k + d) t) (void-amounts card soil row n a e .stored) ∙ just-none (k + d) t,
+      void-draws card soil row n (t - k),
+      just-same k k (a .release .0) refl ∙ moves card soil row (Entry.Void n) a e .first,
+    )

@@ -1,4 +1,4 @@
--- Lives and counts: each accepted reading follows those before it, and what comes of their sequence alone. Assumes nothing.
+-- Lives and counts: each accepted entry follows those before it, and what comes of their sequence alone. Assumes nothing.
 use mathlib.Core.Path.{_≡_, refl, sym, _∙_}
 use mathlib.Core.Logic.{_⊎_, inl, inr}
 use mathlib.Core.List.{List, [], _∷_}
@@ -11,7 +11,7 @@ use lib.ListN.{length, replicate}
 use Rattle.cell.specs.declared.Amounts.{Amounts}
 use Rattle.cell.specs.declared.Answer.the-variants.{Accepted}
 use Rattle.cell.specs.declared.Card.{Card}
-use Rattle.cell.specs.declared.Reading.{Reading}
+use Rattle.cell.specs.declared.Entry.{Entry}
 use Rattle.cell.specs.Ranges.{lifeOf, nextOf}
 use Rattle.cell.specs.RangeLaws.{cleared-life, cleared-next}
 use Rattle.cell.specs.Step.{answerOf, newRow}
@@ -36,10 +36,10 @@ Ordered h row = InSequence h × Leaves h (lifeOf row) (nextOf row)
 pub begins : Ordered [] (replicate 32 0)
 begins = (tt, (cleared-life, cleared-next))
 
-pub goes-on : (card : Card) (h : History) (soil : List ℤ) (row : List ℕ) (r : Reading) (a : Amounts) → answerOf card soil row r ≡ Accepted a
-    → Ordered h row → Ordered (stepOf card soil row r a ∷ h) (newRow card soil row r)
-goes-on card h soil row r a e v =
-    ((v .0, follows h (stepOf card soil row r a) (v .1) (was-in-order card soil row r a e)), (life-after card soil row r a e, next-after card soil row r a e))
+pub goes-on : (card : Card) (h : History) (soil : List ℤ) (row : List ℕ) (i : Entry) (a : Amounts) → answerOf card soil row i ≡ Accepted a
+    → Ordered h row → Ordered (stepOf card soil row i a ∷ h) (newRow card soil row i)
+goes-on card h soil row i a e v =
+    ((v .0, follows h (stepOf card soil row i a) (v .1) (was-in-order card soil row i a e)), (life-after card soil row i a e, next-after card soil row i a e))
 
 -- ---- by the sequence alone
 not-back : (h : History) (last s : Step) → Follows s (last ∷ h) → last .life ≤ s .life

@@ -1,6 +1,6 @@
 -- What a plot's accepted steps say of its waiting water, group by group, and of all its water (demand 3). Definitions only.
 -- A history lists a plot's accepted steps, the latest first, so the step at its head has as number the length of the list.
--- Each entry is an amount of a step; none is worked out as the difference of others.
+-- Each number is an amount of a step; none is worked out as the difference of others.
 use mathlib.Core.Path.{_≡_}
 use mathlib.Core.Bool.{cond}
 use mathlib.Core.Logic.{_⊎_}
@@ -12,7 +12,7 @@ use lib.ListN.{length}
 use Rattle.cell.specs.declared.Amounts.{Amounts}
 use Rattle.cell.specs.Queue.{slot, just}
 
--- one accepted step: the reading's life and count, the ten amounts of the answer, the delay of step 4, and what step 7 took from each slot
+-- one accepted step: the entry's life and count, the ten amounts of the answer, the delay of step 4, and what step 7 took from each slot
 pub record Step : Type 0 where
   pub life : ℕ
   pub count : ℕ

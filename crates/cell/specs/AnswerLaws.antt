@@ -1,29 +1,34 @@
 -- Laws of the answer and of the row that a call of the one-row step gives: what the crates above cite, so that they open no definition here. Assumes nothing.
 use mathlib.Core.Path.{_≡_, refl, sym, ap, _∙_}
 use mathlib.Core.Bool.{true, false}
-use mathlib.Core.List.{List}
+use mathlib.Core.List.{List, [], _∷_, _++_}
 use Prim.Native.Nat.{ℕ, suc, _+_, _≤_}
 use native.Mathlib.Omega.{arith}
 use lib.IntN.{ℤ, pos, natAbs, _-ℤ_}
-use lib.ListN.{length}
+use lib.ListN.{length, getD, drop, replicate, length-replicate}
 use Rattle.cell.specs.declared.Amounts.{Amounts}
 use Rattle.cell.specs.declared.Answer.the-variants.{Accepted, Refused}
 use Rattle.cell.specs.declared.Card.{Card}
 use Rattle.cell.specs.declared.Depth.{Depth}
+use Rattle.cell.specs.declared.Entry.{Entry}
+use Rattle.cell.specs.declared.Notice.{Notice}
 use Rattle.cell.specs.declared.Reading.{Reading}
 use Rattle.cell.specs.declared.Refusal.{Refusal}
 use Rattle.cell.specs.declared.Refusal.the-variants.{BadCard}
 use Rattle.cell.specs.declared.ranges.Soil.{Soil}
 use Rattle.cell.specs.declared.checks.Verdict.{Verdict}
 use Rattle.cell.specs.declared.checks.Verdict.the-variants.{Fine, Bad}
-use Rattle.cell.specs.Ranges.{cardOk, soilOf, queueOf, rowOk, lifeOf, nextOf}
-use Rattle.cell.specs.Refusals.{verdictOf}
-use Rattle.cell.specs.CheckLaws.{Passed, passed, verdict-fine, verdict-card, checked, InOrder, order-is}
+use Rattle.cell.specs.Ranges.{cardOk, soilOk, soilOf, queueOf, rowOk, noticeOk, noticeOf, lifeOf, nextOf}
+use Rattle.cell.specs.Depth.{dryDepth}
+use Rattle.cell.specs.Refusals.{unless, fieldsVerdict, verdictOf}
+use Rattle.cell.specs.CheckLaws.{Passed, passed, verdict-fine, verdict-card, checked, InOrder, order-is, order-old, order-gap}
 use Rattle.cell.specs.Parts.{Checked}
 use Rattle.cell.specs.Queue.{slot, just, total, shifted, spared}
-use Rattle.cell.specs.QueueLaws.{total-in, slot-shifted, slot-spared, slot-joined, length-shifted, length-spared}
-use Rattle.cell.specs.Step.{release, runoff, etvad, etstor, etsat, drain, stored, direct, recharge, queueAfter, stepAmounts, rowAfter, judged, answerOf, newRow, stepDelay, stepDraws, delay, draws, lack}
+use Rattle.cell.specs.QueueLaws.{just-none, total-in, total-shifted, total-cleared, slot-empty, slot-cleared, slot-shifted, slot-spared, slot-joined, length-shifted, length-spared}
+use Rattle.cell.specs.Step.{release, runoff, etvad, etstor, etsat, drain, stored, direct, recharge, queueAfter, stepAmounts, shiftAmounts, amountsBy, queueBy, rowAfter, delayBy, drawsBy, judged, answerOf, newRow, stepDelay, stepDraws, delay, draws, lack}
 use Rattle.cell.specs.StepLaws.{given-most, delay-most, given-parts, stored-none, draws-total, draws-length, totals, recharge-parts, row-queue, runoff-given, plants-pet, drain-most, stored-most, release-most, recharge-most, after-in, after-length, queue-in, queue-length, row-life, row-next, row-kept, row-length}
+use Rattle.cell.specs.Still.{readingOf}
+use Rattle.cell.specs.StillLaws.{amounts-as, queue-as, row-as}
 
 -- the range of each amount
 pub record AmountsIn (a : Amounts) : Type 0 where
@@ -56,15 +61,16 @@ pub record Moves (q : List ℕ) (a : Amounts) (k : ℕ) (ds q' : List ℕ) : Typ
   pub parts : a .inflow .0 ≡ a .runoff .0 + a .etvad .0 + a .stored .0 + fresh
   pub net-is : a .recharge .0 ≡ pos (a .release .0 + fresh) -ℤ pos (a .etsat .0 + a .drain .0)
 
--- an accepted call: the depth that the checks found, and the step that was taken there
-pub record Taken (card : Card) (soil : List ℤ) (row : List ℕ) (r : Reading) (a : Amounts) : Type 0 where
+-- an accepted call: the depth that the checks found, and the step that was taken there, as that of a reading
+pub record Taken (card : Card) (soil : List ℤ) (row : List ℕ) (e : Entry) (a : Amounts) : Type 0 where
   pub depth : Depth
-  pub checks : Passed card soil row r depth
-  pub ranges : Checked card (soilOf soil) r depth
-  pub amounts-are : a ≡ stepAmounts card (soilOf soil) r depth (queueOf (card .delays) row)
-  pub row-is : newRow card soil row r ≡ rowAfter card (soilOf soil) r depth row
-  pub delay-is : stepDelay card soil row r ≡ delay card (soilOf soil) r depth
-  pub draws-are : stepDraws card soil row r ≡ draws card (soilOf soil) r depth (queueOf (card .delays) row)
+  pub checks : Passed card soil row e depth
+  pub ranges : Checked card (soilOf soil) (readingOf e) depth
+  pub amounts-by : a ≡ amountsBy card (soilOf soil) e depth (queueOf (card .delays) row)
+  pub amounts-are : a ≡ stepAmounts card (soilOf soil) (readingOf e) depth (queueOf (card .delays) row)
+  pub row-is : newRow card soil row e ≡ rowAfter card (soilOf soil) e depth row
+  pub row-read : newRow card soil row e ≡ rowAfter card (soilOf soil) (Entry.Reading (readingOf e)) depth row
+  pub moved : Moves (queueOf (card .delays) row) a (stepDelay card soil row e) (stepDraws card soil row e) (queueBy card (soilOf soil) e depth (queueOf (card .delays) row))
 
 module _ (card : Card) (soil : Soil) (r : Reading) (d : Depth) (h : Checked card soil r d) (q : List ℕ) (long : length q ≡ card .delays) where
   left-of-draw : List ℕ
@@ -100,75 +106,123 @@ module _ (card : Card) (soil : Soil) (r : Reading) (d : Depth) (h : Checked card
             ∙ ap (λ (n : ℕ). pos n -ℤ pos (etsat card soil r d q + drain card soil r d)) (omega arith);
       }
 
-  moves-of : {a : Amounts} {k : ℕ} {ds q' : List ℕ} → a ≡ stepAmounts card soil r d q → k ≡ delay card soil r d → ds ≡ draws card soil r d q → q' ≡ queueAfter card soil r d q → Moves q a k ds q'
-  moves-of ea ek ed eq = rw (ea, ek, ed, eq) queue-moves
+-- [3] a shift alone moves water as a step must
+shift-moves : (q : List ℕ) → Moves q (shiftAmounts q) 0 (replicate (length q) 0) (shifted q)
+unfolding shiftAmounts
+shift-moves q =
+    record {
+      reach = omega arith;
+      direct = λ e. refl;
+      first = refl;
+      drawn = sym (total-cleared (length q));
+      rest = refl;
+      same-length = length-shifted q;
+      draws-length = length-replicate {A = ℕ} (length q) 0;
+      slots = λ i. omega (arith, slot-shifted q i, just-none 0 (suc i), slot-cleared (length q) (suc i));
+      totals = omega (arith, total-shifted q);
+      fresh = 0;
+      parts = refl;
+      net-is = ap pos (omega arith);
+    }
 
-module _ (card : Card) (soil : List ℤ) (row : List ℕ) (r : Reading) where
+-- the step of any entry whose reading is in its ranges
+entry-moves : (card : Card) (soil : Soil) (e : Entry) (d : Depth) → Checked card soil (readingOf e) d → (q : List ℕ) → length q ≡ card .delays
+    → Moves q (amountsBy card soil e d q) (delayBy card soil e d) (drawsBy card soil e d q) (queueBy card soil e d q)
+unfolding amountsBy delayBy drawsBy queueBy
+entry-moves card soil (Entry.Reading r) d h q long = queue-moves card soil r d h q long
+entry-moves card soil (Entry.Void n) d h q long = shift-moves q
+
+module _ (card : Card) (soil : List ℤ) (row : List ℕ) (e : Entry) where
   -- refused, the row is as it came
-  pub stays : (why : Refusal) → answerOf card soil row r ≡ Refused why → newRow card soil row r ≡ row
+  pub stays : (why : Refusal) → answerOf card soil row e ≡ Refused why → newRow card soil row e ≡ row
   unfolding answerOf newRow judged
-  stays why e = go (verdictOf card soil row r) e
+  stays why g = go (verdictOf card soil row e) g
     where
-      go : (v : Verdict) → judged v (λ d. Accepted (stepAmounts card (soilOf soil) r d (queueOf (card .delays) row))) (λ b. Refused b) ≡ Refused why → judged v (λ d. rowAfter card (soilOf soil) r d row) (λ b. row) ≡ row
+      go : (v : Verdict) → judged v (λ d. Accepted (amountsBy card (soilOf soil) e d (queueOf (card .delays) row))) (λ b. Refused b) ≡ Refused why → judged v (λ d. rowAfter card (soilOf soil) e d row) (λ b. row) ≡ row
       go (Fine d) f = let z : _≡_ {A = ℕ} 0 1 = cc in absurd (omega arith)
       go (Bad b) f = refl
 
   -- a bad card is refused with 1, whatever else is wrong
-  pub bad-card : cardOk card ≡ false → answerOf card soil row r ≡ Refused BadCard
+  pub bad-card : cardOk card ≡ false → answerOf card soil row e ≡ Refused BadCard
   unfolding answerOf judged
-  bad-card e = rw (verdict-card card soil row r e)
+  bad-card f = rw (verdict-card card soil row e f)
 
-  -- a reading that passes every check is accepted
-  pub lets-through : (d : Depth) → Passed card soil row r d → answerOf card soil row r ≡ Accepted (stepAmounts card (soilOf soil) r d (queueOf (card .delays) row))
+  -- an entry that passes every check is accepted, and the row is the step's
+  pub lets-through : (d : Depth) → Passed card soil row e d → answerOf card soil row e ≡ Accepted (amountsBy card (soilOf soil) e d (queueOf (card .delays) row))
   unfolding answerOf judged
-  lets-through d p = rw (verdict-fine card soil row r d p)
+  lets-through d p = rw (verdict-fine card soil row e d p)
 
-  pub step-taken : (a : Amounts) → answerOf card soil row r ≡ Accepted a → Taken card soil row r a
-  unfolding answerOf newRow stepDelay stepDraws judged
-  step-taken a e = go (verdictOf card soil row r) refl
+  pub row-through : (d : Depth) → Passed card soil row e d → newRow card soil row e ≡ rowAfter card (soilOf soil) e d row
+  unfolding newRow judged
+  row-through d p = rw (verdict-fine card soil row e d p)
+
+  taken-at : (a : Amounts) (d : Depth) → verdictOf card soil row e ≡ Fine d → amountsBy card (soilOf soil) e d (queueOf (card .delays) row) ≡ a → Taken card soil row e a
+  unfolding newRow stepDelay stepDraws judged
+  taken-at a d f ea =
+      let p = passed card soil row e d f in
+      let h = checked card soil row e d p in
+      let q = queueOf (card .delays) row in
+      let top = getD soil 0 (pos 0) in
+      record {
+        depth = d;
+        checks = p;
+        ranges = h;
+        amounts-by = sym ea;
+        amounts-are = sym ea ∙ amounts-as card (soilOf soil) top e d (p .fields-fine) h q;
+        row-is = rw f;
+        row-read = rw f (row-as card (soilOf soil) top e d (p .fields-fine) h row);
+        moved = rw (f, ← ea) (entry-moves card (soilOf soil) e d h q (queue-length card (soilOf soil) (readingOf e) d h row (p .row-ok)));
+      }
+
+  pub step-taken : (a : Amounts) → answerOf card soil row e ≡ Accepted a → Taken card soil row e a
+  unfolding answerOf judged
+  step-taken a g = go (verdictOf card soil row e) refl
     where
-      go : (v : Verdict) → verdictOf card soil row r ≡ v → Taken card soil row r a
+      go : (v : Verdict) → verdictOf card soil row e ≡ v → Taken card soil row e a
       go (Fine d) f =
-          let p = passed card soil row r d f in
-          let s : Accepted (stepAmounts card (soilOf soil) r d (queueOf (card .delays) row)) ≡ Accepted a = rw f at e in
-          record { depth = d; checks = p; ranges = checked card soil row r d p; amounts-are = cc; row-is = rw f; delay-is = rw f; draws-are = rw f }
+          let s : Accepted (amountsBy card (soilOf soil) e d (queueOf (card .delays) row)) ≡ Accepted a = rw f at g in
+          taken-at a d f (cc)
       go (Bad b) f =
-          let s : Refused b ≡ Accepted a = rw f at e in
+          let s : Refused b ≡ Accepted a = rw f at g in
           let z : _≡_ {A = ℕ} 0 1 = cc in
           absurd (omega arith)
 
   -- of an accepted call
-  module _ (a : Amounts) (e : answerOf card soil row r ≡ Accepted a) where
-    t : Taken card soil row r a
-    t = step-taken a e
+  module _ (a : Amounts) (g : answerOf card soil row e ≡ Accepted a) where
+    t : Taken card soil row e a
+    t = step-taken a g
 
-    -- the reading went on with the row's life at its next count, or started a higher life at 0
-    pub was-in-order : InOrder (lifeOf row) (nextOf row) r
-    was-in-order = order-is (lifeOf row) (nextOf row) r (t .checks .not-old) (t .checks .not-gap)
+    -- the entry went on with the row's life at its next count, or started a higher life at 0
+    pub was-in-order : InOrder (lifeOf row) (nextOf row) (noticeOf e)
+    was-in-order = order-is (lifeOf row) (nextOf row) (noticeOf e) (t .checks .not-old) (t .checks .not-gap)
 
-    -- the row has the reading's life and its count + 1
-    pub life-after : lifeOf (newRow card soil row r) ≡ r .life
-    life-after = rw (t .row-is) (row-life card (soilOf soil) r (t .depth) (t .ranges) row (t .checks .row-ok))
+    -- the row has the entry's life and its count + 1
+    pub life-after : lifeOf (newRow card soil row e) ≡ noticeOf e .life
+    life-after = rw (t .row-is) (row-life card (soilOf soil) e (t .depth) row)
 
-    pub next-after : nextOf (newRow card soil row r) ≡ r .count + 1
-    next-after = rw (t .row-is) (row-next card (soilOf soil) r (t .depth) (t .ranges) row (t .checks .row-ok))
+    pub next-after : nextOf (newRow card soil row e) ≡ noticeOf e .count + 1
+    next-after = rw (t .row-is) (row-next card (soilOf soil) e (t .depth) row)
 
     -- a row in range stays in range
-    pub range-after : rowOk (card .delays) (newRow card soil row r) ≡ true
-    range-after = rw (t .row-is) (row-kept card (soilOf soil) r (t .depth) (t .ranges) row (t .checks .row-ok))
+    pub range-after : rowOk (card .delays) (newRow card soil row e) ≡ true
+    range-after = rw (t .row-read) (row-kept card (soilOf soil) (readingOf e) (t .depth) (t .ranges) row (t .checks .row-ok))
 
-    pub length-after : length (newRow card soil row r) ≡ 32
-    length-after = rw (t .row-is) (row-length card (soilOf soil) r (t .depth) (t .ranges) row (t .checks .row-ok))
+    pub length-after : length (newRow card soil row e) ≡ 32
+    length-after = rw (t .row-read) (row-length card (soilOf soil) (readingOf e) (t .depth) (t .ranges) row (t .checks .row-ok))
 
     -- the queue of the row, before and after
     pub queue-long : length (queueOf (card .delays) row) ≡ card .delays
-    queue-long = queue-length card (soilOf soil) r (t .depth) (t .ranges) row (t .checks .row-ok)
+    queue-long = queue-length card (soilOf soil) (readingOf e) (t .depth) (t .ranges) row (t .checks .row-ok)
+
+    queue-after : queueOf (card .delays) (newRow card soil row e) ≡ queueBy card (soilOf soil) e (t .depth) (queueOf (card .delays) row)
+    queue-after =
+        ap (queueOf (card .delays)) (t .row-read)
+        ∙ row-queue card (soilOf soil) (readingOf e) (t .depth) (t .ranges) row (t .checks .row-ok)
+        ∙ sym (queue-as card (soilOf soil) (getD soil 0 (pos 0)) e (t .depth) (t .checks .fields-fine) (t .ranges) (queueOf (card .delays) row))
 
     -- the step moves water as it must
-    pub moves : Moves (queueOf (card .delays) row) a (stepDelay card soil row r) (stepDraws card soil row r) (queueOf (card .delays) (newRow card soil row r))
-    moves =
-        moves-of card (soilOf soil) r (t .depth) (t .ranges) (queueOf (card .delays) row) queue-long (t .amounts-are) (t .delay-is) (t .draws-are)
-        (ap (queueOf (card .delays)) (t .row-is) ∙ row-queue card (soilOf soil) r (t .depth) (t .ranges) row (t .checks .row-ok))
+    pub moves : Moves (queueOf (card .delays) row) a (stepDelay card soil row e) (stepDraws card soil row e) (queueOf (card .delays) (newRow card soil row e))
+    moves = rw queue-after (t .moved)
 
     -- each amount is in its range
     pub amounts-in : AmountsIn a
@@ -177,6 +231,7 @@ module _ (card : Card) (soil : List ℤ) (row : List ℕ) (r : Reading) where
         let h = t .ranges in
         let d = t .depth in
         let s = soilOf soil in
+        let r = readingOf e in
         let q = queueOf (card .delays) row in
         let w = queue-in card s r d h row (t .checks .row-ok) in
         rw (t .amounts-are) (record {
@@ -196,3 +251,46 @@ module _ (card : Card) (soil : List ℤ) (row : List ℕ) (r : Reading) where
                 h .delays,
               );
         })
+
+-- [3] a void in order, with its life and count in range, is accepted wherever card, soil numbers and row are in range: the queue shifts, and the count is used up
+module _ (card : Card) (soil : List ℤ) (row : List ℕ) (n : Notice)
+    (c : cardOk card ≡ true) (s : soilOk soil ≡ true) (w : rowOk (card .delays) row ≡ true) (k : noticeOk n ≡ true) (o : InOrder (lifeOf row) (nextOf row) n) where
+  void-checks : Passed card soil row (Entry.Void n) dryDepth
+  unfolding fieldsVerdict unless
+  void-checks = record { card-ok = c; soil-ok = s; row-ok = w; not-old = order-old (lifeOf row) (nextOf row) n o; not-gap = order-gap (lifeOf row) (nextOf row) n o; fields-fine = rw k }
+
+  pub void-through : answerOf card soil row (Entry.Void n) ≡ Accepted (shiftAmounts (queueOf (card .delays) row))
+  unfolding amountsBy
+  void-through = lets-through card soil row (Entry.Void n) dryDepth void-checks
+
+  pub void-row : newRow card soil row (Entry.Void n) ≡ n .life ∷ (n .count + 1) ∷ (shifted (queueOf (card .delays) row) ++ drop (card .delays) (drop 2 row))
+  unfolding rowAfter queueBy
+  void-row = row-through card soil row (Entry.Void n) dryDepth void-checks
+
+-- what an accepted void answers: release is recharge, other amounts are 0 but left
+pub record OnlyRelease (a : Amounts) : Type 0 where
+  pub inflow : a .inflow .0 ≡ 0
+  pub runoff : a .runoff .0 ≡ 0
+  pub etvad : a .etvad .0 ≡ 0
+  pub etstor : a .etstor .0 ≡ 0
+  pub etsat : a .etsat .0 ≡ 0
+  pub drain : a .drain .0 ≡ 0
+  pub stored : a .stored .0 ≡ 0
+  pub recharge : a .recharge .0 ≡ pos (a .release .0)
+
+pub void-amounts : (card : Card) (soil : List ℤ) (row : List ℕ) (n : Notice) (a : Amounts) → answerOf card soil row (Entry.Void n) ≡ Accepted a → OnlyRelease a
+unfolding amountsBy shiftAmounts
+void-amounts card soil row n a g =
+    rw (step-taken card soil row (Entry.Void n) a g .amounts-by) (record { inflow = refl; runoff = refl; etvad = refl; etstor = refl; etsat = refl; drain = refl; stored = refl; recharge = refl })
+
+-- and it draws from no slot
+pub void-draws : (card : Card) (soil : List ℤ) (row : List ℕ) (n : Notice) (i : ℕ) → slot (stepDraws card soil row (Entry.Void n)) i ≡ 0
+unfolding stepDraws judged drawsBy
+void-draws card soil row n i = go (verdictOf card soil row (Entry.Void n))
+  where
+    q : List ℕ
+    q = queueOf (card .delays) row
+
+    go : (v : Verdict) → slot (judged v (λ d. replicate (length q) 0) (λ why. [])) i ≡ 0
+    go (Fine d) = slot-cleared (length q) i
+    go (Bad why) = slot-empty i

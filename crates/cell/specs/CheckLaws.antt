@@ -19,54 +19,55 @@ use Rattle.cell.specs.declared.Answer.{Answer}
 use Rattle.cell.specs.declared.Answer.the-variants.{Accepted, Refused}
 use Rattle.cell.specs.declared.Card.{Card}
 use Rattle.cell.specs.declared.Depth.{Depth}
-use Rattle.cell.specs.declared.Reading.{Reading}
+use Rattle.cell.specs.declared.Entry.{Entry}
+use Rattle.cell.specs.declared.Notice.{Notice}
 use Rattle.cell.specs.declared.Refusal.{Refusal}
 use Rattle.cell.specs.declared.Refusal.the-variants.{BadCard, BadLengths, BadCell, BadSoil, BadRow, Old, Gap, BadReading, UnusableHead, InactiveHead}
 use Rattle.cell.specs.declared.checks.Verdict.{Verdict}
 use Rattle.cell.specs.declared.checks.Verdict.the-variants.{Fine, Bad}
 use Rattle.cell.specs.Parts.{Checked}
 use Rattle.cell.specs.Depth.{distance, depthOf}
-use Rattle.cell.specs.Ranges.{cardOk, soilOk, soilOf, rowOk, fieldsOk, lifeOf, nextOf, queueOf}
+use Rattle.cell.specs.Ranges.{cardOk, soilOk, soilOf, rowOk, noticeOk, fieldsOk, noticeOf, lifeOf, nextOf, queueOf}
 use Rattle.cell.specs.RangeLaws.{card-in, soil-in, fields-in}
-use Rattle.cell.specs.Refusals.{refusalNumber, firstFailing, numberOf, isOld, isGap, isUnusable, isInactive, sounded, unless, verdictOf}
-use Rattle.cell.specs.Step.{stepAmounts, judged, answerOf}
+use Rattle.cell.specs.Refusals.{refusalNumber, firstFailing, numberOf, isOld, isGap, isUnusable, isInactive, sounded, fieldChecks, unless, fieldsVerdict, verdictOf}
+use Rattle.cell.specs.Step.{amountsBy, judged, answerOf}
 use Rattle.cell.specs.RuleLaws.{depth-le}
+use Rattle.cell.specs.Still.{readingOf}
+use Rattle.cell.specs.StillLaws.{fields-as}
 
--- ---- the checks that a reading has passed where the table stands at d
-pub record Passed (card : Card) (soil : List ℤ) (row : List ℕ) (r : Reading) (d : Depth) : Type 0 where
+-- ---- the checks that an entry has passed where the table stands at d
+pub record Passed (card : Card) (soil : List ℤ) (row : List ℕ) (e : Entry) (d : Depth) : Type 0 where
   pub card-ok : cardOk card ≡ true
   pub soil-ok : soilOk soil ≡ true
   pub row-ok : rowOk (card .delays) row ≡ true
-  pub not-old : isOld (lifeOf row) (nextOf row) r ≡ false
-  pub not-gap : isGap (lifeOf row) (nextOf row) r ≡ false
-  pub fields-ok : fieldsOk r ≡ true
-  pub head-ok : sounded (getD soil 0 (pos 0)) (classOf (r .head)) ≡ Fine d
+  pub not-old : isOld (lifeOf row) (nextOf row) (noticeOf e) ≡ false
+  pub not-gap : isGap (lifeOf row) (nextOf row) (noticeOf e) ≡ false
+  pub fields-fine : fieldsVerdict (getD soil 0 (pos 0)) e ≡ Fine d
 
 unless-fine : (b : Bool) (why : Refusal) (v : Verdict) (d : Depth) → unless b why v ≡ Fine d → (b ≡ true) × (v ≡ Fine d)
 unfolding unless
 unless-fine true why v d e = (refl, e)
 unless-fine false why v d e = let z : _≡_ {A = ℕ} 0 1 = cc in absurd (omega arith)
 
-pub passed : (card : Card) (soil : List ℤ) (row : List ℕ) (r : Reading) (d : Depth) → verdictOf card soil row r ≡ Fine d → Passed card soil row r d
+pub passed : (card : Card) (soil : List ℤ) (row : List ℕ) (e : Entry) (d : Depth) → verdictOf card soil row e ≡ Fine d → Passed card soil row e d
 unfolding verdictOf
-passed card soil row r d e =
-    let p1 = unless-fine _ _ _ d e in
+passed card soil row e d f =
+    let p1 = unless-fine _ _ _ d f in
     let p2 = unless-fine _ _ _ d (p1 .1) in
     let p3 = unless-fine _ _ _ d (p2 .1) in
     let p4 = unless-fine _ _ _ d (p3 .1) in
     let p5 = unless-fine _ _ _ d (p4 .1) in
-    let p6 = unless-fine _ _ _ d (p5 .1) in
-    record { card-ok = p1 .0; soil-ok = p2 .0; row-ok = p3 .0; not-old = not-true _ (p4 .0); not-gap = not-true _ (p5 .0); fields-ok = p6 .0; head-ok = p6 .1 }
+    record { card-ok = p1 .0; soil-ok = p2 .0; row-ok = p3 .0; not-old = not-true _ (p4 .0); not-gap = not-true _ (p5 .0); fields-fine = p5 .1 }
 
 -- and where all are passed, the verdict is that depth
-pub verdict-fine : (card : Card) (soil : List ℤ) (row : List ℕ) (r : Reading) (d : Depth) → Passed card soil row r d → verdictOf card soil row r ≡ Fine d
+pub verdict-fine : (card : Card) (soil : List ℤ) (row : List ℕ) (e : Entry) (d : Depth) → Passed card soil row e d → verdictOf card soil row e ≡ Fine d
 unfolding verdictOf unless
-verdict-fine card soil row r d p = rw (p .card-ok, p .soil-ok, p .row-ok, p .not-old, p .not-gap, p .fields-ok) (p .head-ok)
+verdict-fine card soil row e d p = rw (p .card-ok, p .soil-ok, p .row-ok, p .not-old, p .not-gap) (p .fields-fine)
 
 -- check 1 comes first
-pub verdict-card : (card : Card) (soil : List ℤ) (row : List ℕ) (r : Reading) → cardOk card ≡ false → verdictOf card soil row r ≡ Bad BadCard
+pub verdict-card : (card : Card) (soil : List ℤ) (row : List ℕ) (e : Entry) → cardOk card ≡ false → verdictOf card soil row e ≡ Bad BadCard
 unfolding verdictOf unless
-verdict-card card soil row r e = rw e
+verdict-card card soil row e f = rw f
 
 -- a head that passes lies within 20,000,000,000 of a top in range
 sounded-le : (top : ℤ) (h : Head) (d : Depth) → natAbs top ≤ 10000000000 → sounded top h ≡ Fine d → distance d ≤ 20000000000
@@ -76,11 +77,15 @@ sounded-le top Dry d t e = let f : Depth.Under 20000000000 ≡ d = cc in rw (←
 sounded-le top Inactive d t e = let z : _≡_ {A = ℕ} 0 1 = cc in absurd (omega arith)
 sounded-le top Unusable d t e = let z : _≡_ {A = ℕ} 0 1 = cc in absurd (omega arith)
 
-pub checked : (card : Card) (soil : List ℤ) (row : List ℕ) (r : Reading) (d : Depth) → Passed card soil row r d → Checked card (soilOf soil) r d
-checked card soil row r d p =
+-- the ranges, of the reading that the entry is stepped as
+pub checked : (card : Card) (soil : List ℤ) (row : List ℕ) (e : Entry) (d : Depth) → Passed card soil row e d → Checked card (soilOf soil) (readingOf e) d
+unfolding fieldsVerdict
+checked card soil row e d p =
     let c = card-in card (p .card-ok) in
     let s = soil-in soil (p .soil-ok) in
-    let f = fields-in r (p .fields-ok) in
+    let r = readingOf e in
+    let g = unless-fine (fieldsOk r) BadReading _ d (fields-as (getD soil 0 (pos 0)) e ∙ p .fields-fine) in
+    let f = fields-in r (g .0) in
     record {
       delays = c .delays;
       etdepth = s .etdepth;
@@ -95,12 +100,12 @@ checked card soil row r d p =
       septic = f .septic;
       pet = f .pet;
       etmin = f .etmin;
-      depth = sounded-le (getD soil 0 (pos 0)) (classOf (r .head)) d (s .top) (p .head-ok);
+      depth = sounded-le (getD soil 0 (pos 0)) (classOf (r .head)) d (s .top) (g .1);
     }
 
--- ---- a reading is in order if it goes on with the row's life at its next count, or starts a higher life at 0
-abbrev pub InOrder : ℕ → ℕ → Reading → Type 0
-InOrder life next r = ((r .life ≡ life) × (r .count ≡ next)) ⊎ ((life < r .life) × (r .count ≡ 0))
+-- ---- an entry is in order if it goes on with the row's life at its next count, or starts a higher life at 0
+abbrev pub InOrder : ℕ → ℕ → Notice → Type 0
+InOrder life next n = ((n .life ≡ life) × (n .count ≡ next)) ⊎ ((life < n .life) × (n .count ≡ 0))
 
 or-off : (a b : Bool) → (a || b) ≡ false → (a ≡ false) × (b ≡ false)
 or-off true b e = let z : _≡_ {A = ℕ} 0 1 = cc in absurd (omega arith)
@@ -111,39 +116,34 @@ and-off true b p e = e
 and-off false b p e = let z : _≡_ {A = ℕ} 0 1 = cc in absurd (omega arith)
 
 -- neither old nor a gap: in order, and the other way round
-pub order-is : (life next : ℕ) (r : Reading) → isOld life next r ≡ false → isGap life next r ≡ false → InOrder life next r
+pub order-is : (life next : ℕ) (n : Notice) → isOld life next n ≡ false → isGap life next n ≡ false → InOrder life next n
 unfolding isOld isGap
-order-is life next r o g = go (ℕ-discrete (r .life) life)
+order-is life next n o g = go (ℕ-discrete (n .life) life)
   where
-    p : (ltb (r .life) life ≡ false) × ((eqb (r .life) life && ltb (r .count) next) ≡ false)
-    p = or-off (ltb (r .life) life) (eqb (r .life) life && ltb (r .count) next) o
+    p : (ltb (n .life) life ≡ false) × ((eqb (n .life) life && ltb (n .count) next) ≡ false)
+    p = or-off (ltb (n .life) life) (eqb (n .life) life && ltb (n .count) next) o
 
-    q : ((eqb (r .life) life && ltb next (r .count)) ≡ false) × ((ltb life (r .life) && not (eqb (r .count) 0)) ≡ false)
-    q = or-off (eqb (r .life) life && ltb next (r .count)) (ltb life (r .life) && not (eqb (r .count) 0)) g
+    q : ((eqb (n .life) life && ltb next (n .count)) ≡ false) × ((ltb life (n .life) && not (eqb (n .count) 0)) ≡ false)
+    q = or-off (eqb (n .life) life && ltb next (n .count)) (ltb life (n .life) && not (eqb (n .count) 0)) g
 
-    go : Dec (r .life ≡ life) → InOrder life next r
+    go : Dec (n .life ≡ life) → InOrder life next n
     go (yes e) =
-        let a : next ≤ r .count = ltb-false _ _ (and-off (eqb (r .life) life) (ltb (r .count) next) (eq-eqb _ _ e) (p .1)) in
-        let b : r .count ≤ next = ltb-false _ _ (and-off (eqb (r .life) life) (ltb next (r .count)) (eq-eqb _ _ e) (q .0)) in
+        let a : next ≤ n .count = ltb-false _ _ (and-off (eqb (n .life) life) (ltb (n .count) next) (eq-eqb _ _ e) (p .1)) in
+        let b : n .count ≤ next = ltb-false _ _ (and-off (eqb (n .life) life) (ltb next (n .count)) (eq-eqb _ _ e) (q .0)) in
         inl (e, omega arith)
-    go (no n) =
-        let l : life < r .life = omega (arith, ltb-false (r .life) life (p .0)) in
-        inr (l, eqb-true _ _ (not-false _ (and-off (ltb life (r .life)) (not (eqb (r .count) 0)) (lt-ltb _ _ l) (q .1))))
+    go (no ne) =
+        let l : life < n .life = omega (arith, ltb-false (n .life) life (p .0)) in
+        inr (l, eqb-true _ _ (not-false _ (and-off (ltb life (n .life)) (not (eqb (n .count) 0)) (lt-ltb _ _ l) (q .1))))
 
-pub order-old : (life next : ℕ) (r : Reading) → InOrder life next r → isOld life next r ≡ false
+pub order-old : (life next : ℕ) (n : Notice) → InOrder life next n → isOld life next n ≡ false
 unfolding isOld
-order-old life next r (inl e) = simp (le-ltb (r .life) life (omega arith), le-ltb (r .count) next (omega arith), and-false)
-order-old life next r (inr e) = simp (le-ltb (r .life) life (omega arith), ne-eqb (r .life) life (λ i. omega arith))
+order-old life next n (inl e) = simp (le-ltb (n .life) life (omega arith), le-ltb (n .count) next (omega arith), and-false)
+order-old life next n (inr e) = simp (le-ltb (n .life) life (omega arith), ne-eqb (n .life) life (λ i. omega arith))
 
-pub order-gap : (life next : ℕ) (r : Reading) → InOrder life next r → isGap life next r ≡ false
+pub order-gap : (life next : ℕ) (n : Notice) → InOrder life next n → isGap life next n ≡ false
 unfolding isGap
-order-gap life next r (inl e) = simp (le-ltb next (r .count) (omega arith), le-ltb life (r .life) (omega arith), and-false)
-order-gap life next r (inr e) = simp (ne-eqb (r .life) life (λ i. omega arith), eq-eqb (r .count) 0 (e .1), and-false)
-
--- 6 and 7 look at a reading's life and count only
-pub same-order : (life next : ℕ) (r r' : Reading) → r .life ≡ r' .life → r .count ≡ r' .count → (isOld life next r ≡ isOld life next r') × (isGap life next r ≡ isGap life next r')
-unfolding isOld isGap
-same-order life next r r' p q = (rw (p, q), rw (p, q))
+order-gap life next n (inl e) = simp (le-ltb next (n .count) (omega arith), le-ltb life (n .life) (omega arith), and-false)
+order-gap life next n (inr e) = simp (ne-eqb (n .life) life (λ i. omega arith), eq-eqb (n .count) 0 (e .1), and-false)
 
 -- ---- the number of a verdict is that of the first check that fails
 abbrev verdictNumber : Verdict → ℕ
@@ -162,22 +162,27 @@ sounded-number top Inactive = refl
 sounded-number top Dry = refl
 sounded-number top (Level x) = refl
 
-module _ (card : Card) (soil : List ℤ) (row : List ℕ) (r : Reading) where
+fields-number : (top : ℤ) (e : Entry) → verdictNumber (fieldsVerdict top e) ≡ firstFailing (fieldChecks e)
+unfolding fieldsVerdict
+fields-number top (Entry.Reading r) = simp (unless-number, sounded-number)
+fields-number top (Entry.Void n) = unless-number (noticeOk n) BadReading _
+
+module _ (card : Card) (soil : List ℤ) (row : List ℕ) (e : Entry) where
   -- 2 and 3 are the site's
   abbrev pub rowChecks : List (ℕ × Bool)
   rowChecks =
-      (1, cardOk card) ∷ (4, soilOk soil) ∷ (5, rowOk (card .delays) row) ∷ (6, not (isOld (lifeOf row) (nextOf row) r)) ∷ (7, not (isGap (lifeOf row) (nextOf row) r))
-      ∷ (8, fieldsOk r) ∷ (9, not (isUnusable (classOf (r .head)))) ∷ (10, not (isInactive (classOf (r .head)))) ∷ []
+      (1, cardOk card) ∷ (4, soilOk soil) ∷ (5, rowOk (card .delays) row)
+      ∷ (6, not (isOld (lifeOf row) (nextOf row) (noticeOf e))) ∷ (7, not (isGap (lifeOf row) (nextOf row) (noticeOf e))) ∷ fieldChecks e
 
-  verdict-number : verdictNumber (verdictOf card soil row r) ≡ firstFailing rowChecks
+  verdict-number : verdictNumber (verdictOf card soil row e) ≡ firstFailing rowChecks
   unfolding verdictOf
-  verdict-number = simp (unless-number, sounded-number)
+  verdict-number = simp (unless-number, fields-number)
 
-  pub row-number : numberOf (answerOf card soil row r) ≡ firstFailing rowChecks
+  pub row-number : numberOf (answerOf card soil row e) ≡ firstFailing rowChecks
   unfolding answerOf judged
-  row-number = go (verdictOf card soil row r) ∙ verdict-number
+  row-number = go (verdictOf card soil row e) ∙ verdict-number
     where
-      go : (v : Verdict) → numberOf (judged v (λ d. Accepted (stepAmounts card (soilOf soil) r d (queueOf (card .delays) row))) (λ why. Refused why)) ≡ verdictNumber v
+      go : (v : Verdict) → numberOf (judged v (λ d. Accepted (amountsBy card (soilOf soil) e d (queueOf (card .delays) row))) (λ why. Refused why)) ≡ verdictNumber v
       go (Fine d) = refl
       go (Bad why) = refl
 

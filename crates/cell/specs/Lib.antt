@@ -14,10 +14,13 @@ pub mod QueueLaws
 pub mod RuleLaws
 pub mod StepLaws
 pub mod AnswerLaws
+-- [3] a void, as the code steps it
+pub mod StillLaws
 -- [2] the search that was retired
 pub mod ShallowFirst
 -- what the laws and the code's own contracts lean on
 pub mod Parts
+pub mod Still
 pub mod Bounds
 pub mod Conj
 pub mod Table

@@ -1,12 +1,13 @@
 -- Laws of the queue: a step's moves slot by slot, in total and in length; and the range of the slots. Assumes nothing.
 use mathlib.Core.Path.{_≡_, refl, ap}
-use mathlib.Core.Bool.{true, and-eq-true-iff}
+use mathlib.Core.Bool.{Bool, true, false, cond, and-eq-true-iff}
 use mathlib.Core.List.{List, [], _∷_, _++_}
 use Prim.Native.Nat.{ℕ, zero, suc, _+_, _-_, _*_, _≤_, _<_}
 use native.Mathlib.Omega.{arith}
 use native.Mathlib.Nat.{le-of-suc-le-suc, not-suc-le-zero, sub-zero}
 use borrow.Author.Tests.{eq-eqb, ne-eqb, le-leb, leb-true}
-use lib.Dec.{leb, eqb·suc-suc}
+use lib.Dec.{leb, eqb, eqb·suc-suc}
+use lib.Seq.{set-getD}
 use lib.ListN.{length, getD, take, drop, set, replicate, length-set, length-append}
 use Rattle.cell.specs.Ranges.{slotsOk}
 use Rattle.cell.specs.Queue.{slot, just, total, shifted, taken, spared, joined}
@@ -49,6 +50,12 @@ slot-spared lack q (suc i) = go lack q i
     go lack (s ∷ q) zero = omega arith
     go lack (s ∷ q) (suc i) = go (lack - s) q i
 
+-- where nothing is lacking the slots stay
+pub spared-none : (q : List ℕ) → spared 0 q ≡ q
+unfolding spared
+spared-none [] = refl
+spared-none (s ∷ q) = let e : 0 - s ≡ 0 = omega arith in rw (e, sub-zero, spared-none q)
+
 pub total-spared : (lack : ℕ) (q : List ℕ) → total (taken lack q) + total (spared lack q) ≡ total q
 unfolding total taken spared
 total-spared lack [] = refl
@@ -76,6 +83,13 @@ just-same a b f e = rw (eq-eqb a b e)
 pub just-other : (a b f : ℕ) → ¬ (a ≡ b) → just a b f ≡ 0
 just-other a b f e = rw (ne-eqb a b e)
 
+pub just-none : (a b : ℕ) → just a b 0 ≡ 0
+just-none a b = go (eqb a b)
+  where
+    go : (t : Bool) → _≡_ {A = ℕ} (cond t 0 0) 0
+    go true = refl
+    go false = refl
+
 pub just-suc : (a b f : ℕ) → just (suc a) (suc b) f ≡ just a b f
 just-suc a b f = rw (eqb·suc-suc a b)
 
@@ -101,6 +115,12 @@ pub total-joined : (k f : ℕ) (q : List ℕ) → k ≤ length q → (k ≡ 0 �
 unfolding joined
 total-joined zero f q h z = omega (arith, z refl)
 total-joined (suc k) f q h z = added-total q k f h
+
+-- where nothing joins the slots stay
+pub joined-none : (k : ℕ) (q : List ℕ) → joined k 0 q ≡ q
+unfolding joined
+joined-none zero q = refl
+joined-none (suc i) q = let e : getD q i 0 + 0 ≡ getD q i 0 = omega arith in rw (e, set-getD)
 
 pub length-joined : (k f : ℕ) (q : List ℕ) → length (joined k f q) ≡ length q
 unfolding joined

@@ -13,7 +13,7 @@ use native.Mathlib.Decide.{decLe}
 use native.Mathlib.Omega.{arith}
 use Rattle.cell.specs.declared.Card.{Card}
 use Rattle.cell.specs.declared.Reading.{Reading}
-use Rattle.cell.specs.Ranges.{countsOk, noneOf, risingFrom, cardOk, depthsOk, within, soilOk, soilOf, lifeOf, nextOf, slotsOf, queueOf, slotsOk, rowOk, fieldsOk}
+use Rattle.cell.specs.Ranges.{countsOk, noneOf, risingFrom, cardOk, depthsOk, within, soilOk, soilOf, lifeOf, nextOf, slotsOf, queueOf, slotsOk, rowOk, noticeOk, fieldsOk}
 use Rattle.cell.specs.Conj.{told}
 use Rattle.cell.specs.QueueLaws.{SlotsIn, slots-in, slots-ok, first-zeros}
 
@@ -189,7 +189,7 @@ pub record FieldsIn (r : Reading) : Type 0 where
   pub amc : r .amc ≤ 3
 
 pub fields-in : (r : Reading) → fieldsOk r ≡ true → FieldsIn r
-unfolding fieldsOk
+unfolding fieldsOk noticeOk
 fields-in r e =
     let p =
     told (leb (r .life) 65535)

@@ -1,4 +1,4 @@
--- Numbers and their ranges: of a card, of a cell's soil numbers, of its stored row, of a reading. Definitions only.
+-- Numbers and their ranges: of a card, of a cell's soil numbers, of its stored row, of a void's notice, of a reading. Definitions only.
 use Prim.Native.Nat.{ℕ, _-_, _*_}
 use mathlib.Core.Bool.{Bool, true, _&&_}
 use mathlib.Core.List.{List, [], _∷_}
@@ -7,6 +7,8 @@ use lib.IntN.{ℤ, pos, negsuc, natAbs}
 use lib.Signed.{leZ}
 use lib.ListN.{length, getD, take, drop}
 use Rattle.cell.specs.declared.Card.{Card}
+use Rattle.cell.specs.declared.Entry.{Entry}
+use Rattle.cell.specs.declared.Notice.{Notice}
 use Rattle.cell.specs.declared.Reading.{Reading}
 use Rattle.cell.specs.declared.ranges.Soil.{Soil}
 
@@ -78,11 +80,25 @@ slotsOk m (s ∷ ss) = leb s (2000000 * m) && slotsOk (m - 1) ss
 unfoldable pub rowOk : ℕ → List ℕ → Bool
 rowOk m row = eqb (length row) 32 && leb (lifeOf row) 65535 && leb (nextOf row) 1000000 && slotsOk m (slotsOf row)
 
+-- ---- [3] an entry: a reading, or a void. Either names a cell, a life and a count, which are all that a notice holds
+abbrev pub noticed : Reading → Notice
+noticed r = record { cell = r .cell; life = r .life; count = r .count }
+
+abbrev pub noticeOf : Entry → Notice
+noticeOf (Entry.Reading r) = noticed r
+noticeOf (Entry.Void n) = n
+
+abbrev pub cellOf : Entry → ℕ
+cellOf e = noticeOf e .cell
+
+-- the life and count of either
+unfoldable pub noticeOk : Notice → Bool
+noticeOk n = leb (n .life) 65535 && leb (n .count) 999999
+
 -- ---- the reading, but for its cell and its head
 unfoldable pub fieldsOk : Reading → Bool
 fieldsOk r =
-    leb (r .life) 65535
-    && leb (r .count) 999999
+    noticeOk (noticed r)
     && leb (r .rain) 1000000
     && leb (r .irrig) 1000000
     && leb (r .septic) 1000000

@@ -10,7 +10,8 @@ use Rattle.head.specs.declared.Head.the-variants.{Level, Dry, Inactive, Unusabl
 use Rattle.head.specs.Class.{classOf}
 use Rattle.head.specs.Level.{levelUm}
 use Rattle.cell.specs.declared.Card.{Card}
-use Rattle.cell.specs.declared.Reading.{Reading}
+use Rattle.cell.specs.declared.Entry.{Entry}
+use Rattle.cell.specs.declared.Notice.{Notice}
 use Rattle.cell.specs.declared.Amounts.{Amounts}
 use Rattle.cell.specs.declared.Refusal.{Refusal}
 use Rattle.cell.specs.declared.Refusal.the-variants.{BadCard, BadLengths, BadCell, BadSoil, BadRow, Old, Gap, BadReading, UnusableHead, InactiveHead}
@@ -19,7 +20,7 @@ use Rattle.cell.specs.declared.Answer.the-variants.{Accepted, Refused}
 use Rattle.cell.specs.declared.checks.Verdict.{Verdict}
 use Rattle.cell.specs.declared.checks.Verdict.the-variants.{Fine, Bad}
 use Rattle.cell.specs.Water.{water, net}
-use Rattle.cell.specs.Ranges.{cardOk, soilOk, rowOk, fieldsOk, lifeOf, nextOf}
+use Rattle.cell.specs.Ranges.{cardOk, soilOk, rowOk, noticeOk, fieldsOk, noticeOf, lifeOf, nextOf}
 use Rattle.cell.specs.Depth.{depthOf, dryDepth}
 
 -- ---- the numbers: 1 to 10 of a step, some of other calls too
@@ -77,12 +78,12 @@ amountsOf (Refused r) = nothing
 -- ---- the checks of a row's step
 -- of a row's life and next count
 -- 6. old: life lower, or same life and count lower than next
-unfoldable pub isOld : ℕ → ℕ → Reading → Bool
-isOld life next r = ltb (r .life) life || (eqb (r .life) life && ltb (r .count) next)
+unfoldable pub isOld : ℕ → ℕ → Notice → Bool
+isOld life next n = ltb (n .life) life || (eqb (n .life) life && ltb (n .count) next)
 
 -- 7. gap: same life and count higher than next, or life higher and count not 0
-unfoldable pub isGap : ℕ → ℕ → Reading → Bool
-isGap life next r = (eqb (r .life) life && ltb next (r .count)) || (ltb life (r .life) && not (eqb (r .count) 0))
+unfoldable pub isGap : ℕ → ℕ → Notice → Bool
+isGap life next n = (eqb (n .life) life && ltb next (n .count)) || (ltb life (n .life) && not (eqb (n .count) 0))
 
 -- 9. head unusable; 10. head marked inactive
 abbrev pub isUnusable : Head → Bool
@@ -104,18 +105,27 @@ sounded top Inactive = Bad InactiveHead
 sounded top Dry = Fine dryDepth
 sounded top (Level x) = Fine (depthOf top (levelUm x))
 
+-- 8 to 10, each with its number and whether it is passed; of a void [3] the life and count part of 8, no other
+abbrev pub fieldChecks : Entry → List (ℕ × Bool)
+fieldChecks (Entry.Reading r) = (8, fieldsOk r) ∷ (9, not (isUnusable (classOf (r .head)))) ∷ (10, not (isInactive (classOf (r .head)))) ∷ []
+fieldChecks (Entry.Void n) = (8, noticeOk n) ∷ []
+
 -- a check: refused with r where it fails, else on to the next
 unfoldable pub unless : Bool → Refusal → Verdict → Verdict
 unless true r next = next
 unless false r next = Bad r
 
+-- the checks after 7: 8, 9 and 10 of a reading; of a void [3] the life and count part of 8. A verdict that passes carries a depth, at which no rule of a void looks
+unfoldable pub fieldsVerdict : ℤ → Entry → Verdict
+fieldsVerdict top (Entry.Reading r) = unless (fieldsOk r) BadReading (sounded top (classOf (r .head)))
+fieldsVerdict top (Entry.Void n) = unless (noticeOk n) BadReading (Fine dryDepth)
+
 -- the first check that fails, in their order; 2 and 3 are the site's
-unfoldable pub verdictOf : Card → List ℤ → List ℕ → Reading → Verdict
-verdictOf card soil row r =
+unfoldable pub verdictOf : Card → List ℤ → List ℕ → Entry → Verdict
+verdictOf card soil row e =
     unless (cardOk card) BadCard
     (unless (soilOk soil) BadSoil
     (unless (rowOk (card .delays) row) BadRow
-    (unless (not (isOld (lifeOf row) (nextOf row) r)) Old
-    (unless (not (isGap (lifeOf row) (nextOf row) r)) Gap
-    (unless (fieldsOk r) BadReading
-    (sounded (getD soil 0 (pos 0)) (classOf (r .head))))))))
+    (unless (not (isOld (lifeOf row) (nextOf row) (noticeOf e))) Old
+    (unless (not (isGap (lifeOf row) (nextOf row) (noticeOf e))) Gap
+    (fieldsVerdict (getD soil 0 (pos 0)) e)))))

@@ -10,6 +10,7 @@ ghost use Rattle.cell.specs.Step.{queueAfter, stepAmounts, rowAfter};
 use crate::Amounts;
 use crate::Card;
 use crate::Depth;
+use crate::Entry;
 use crate::Net;
 use crate::Reading;
 use crate::Water;
@@ -129,7 +130,7 @@ fn gathered(
 // One accepted step of a row: the queue is the part of it after life and next count.
 pub fn accept(card: Card, soil: Soil, r: Reading, d: Depth, row: &mut [u32]) -> Amounts
     requires { ⌜ Checked card soil r d ⌝ ∗ ⌜ rowOk (card .delays) (now row) ≡ true ⌝ }
-    ensures { λ a. ⌜ (a ≡ stepAmounts card soil r d (queueOf (card .delays) (now (row .entry)))) × (now (row .exit) ≡ rowAfter card soil r d (now (row .entry))) ⌝ }
+    ensures { λ a. ⌜ (a ≡ stepAmounts card soil r d (queueOf (card .delays) (now (row .entry)))) × (now (row .exit) ≡ rowAfter card soil (Entry.Reading r) d (now (row .entry))) ⌝ }
 {
     let end = 2 + (card.delays as usize);
     let amounts = turn(&mut row[2..end], card, soil, r, d);

@@ -1,4 +1,4 @@
-// Runs the cases of document 01 that are not proved: its unstarred edges, and both sides of each refusal number; for [1], storms on dry and on wet ground; for [2], the delay under 30 depths.
+// Runs the cases of document 01 that are not proved: its unstarred edges, and both sides of each refusal number; for [1], storms on dry and on wet ground; for [2], the delay under 30 depths; for [3], voids.
 mod card_texts;
 mod cards;
 mod delays;
@@ -12,6 +12,7 @@ mod sheets;
 mod show;
 mod sites;
 mod soils;
+mod voids;
 
 fn main() {
     cards::cases();
@@ -25,4 +26,5 @@ fn main() {
     sheets::cases();
     readings::cases();
     card_texts::cases();
+    voids::cases();
 }

@@ -4,6 +4,7 @@ ghost use lib.ListN.{length};
 use crate::plots;
 use cell::Answer;
 use cell::Card;
+use cell::Entry;
 use cell::Reading;
 use form::words::size;
 
@@ -92,11 +93,16 @@ pub fn row(rows: &[u32], delays: u32) {
     }
 }
 
-// One reading, given to a site, and the first plot's row after it.
-pub fn step(card: Card, soil: &[i64], rows: &mut [u32], r: Reading) {
+// One entry, given to a site, and the first plot's row after it.
+pub fn entry(card: Card, soil: &[i64], rows: &mut [u32], e: Entry) {
     io::write_all(1, b": ");
-    answer(r.cell, site::step(card, soil, rows, r));
+    answer(cell::cell_of(e), site::step(card, soil, rows, e));
     row(rows, card.delays);
+}
+
+// One reading, so given.
+pub fn step(card: Card, soil: &[i64], rows: &mut [u32], r: Reading) {
+    entry(card, soil, rows, Entry::Reading(r));
 }
 
 // One reading, given to a plot of these soil numbers on the example's card, whose row holds zeros.

@@ -2,6 +2,7 @@
 ghost use Prim.Native.Nat.{_≤_};
 use crate::plots;
 use crate::show;
+use cell::Entry;
 
 // The example's reading for this cell, over these soil and row numbers.
 fn over(cells: u32, cell: u32, soil: &[i64], rows: &mut [u32]) {
@@ -77,7 +78,7 @@ fn largest(cell: u32) {
     r.cell = cell;
     show::answer(
         cell,
-        site::step(plots::card_of(256, 2), &soil, &mut rows, r),
+        site::step(plots::card_of(256, 2), &soil, &mut rows, Entry::Reading(r)),
     );
     show::row(&rows[8160..], 2);
 }

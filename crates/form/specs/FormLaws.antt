@@ -211,6 +211,15 @@ pub and-2 : (a b : Bool) → (a && b) ≡ true → b ≡ true
 and-2 true b e = e
 and-2 false b e = absurd (false≢true e)
 
+-- a form that starts with a byte of its own stands only where that byte does
+pub first-byte : (c : ℕ) (f s : List ℕ) → isMark c ≡ false → formAt (c ∷ f) s 0 .ok ≡ true → byteAt s 0 ≡ c
+unfolding formAt
+first-byte c f s m k = go (eqb (byteAt s 0) c) refl
+  where
+    go : (b : Bool) → eqb (byteAt s 0) c ≡ b → byteAt s 0 ≡ c
+    go true e = eqb-true (byteAt s 0) c e
+    go false e = let z : false ≡ true = rw (m, e) at k in absurd (false≢true z)
+
 -- what is read as a form is the one text of the values read
 pub form-one : (f s : List ℕ) (at : ℕ) → all-bytes f ≡ true → at ≤ length s → formAt f s at .ok ≡ true → FormRead f s at (formAt f s at)
 unfolding formAt formText fits

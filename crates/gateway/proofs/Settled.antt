@@ -7,6 +7,8 @@ use denote.Triple.Clauses.{AtExit}
 use borrow.Fn.Kinds.{Dens, resT, endedOf}
 use Rattle.gateway.proofs.waterbook_step.Kinds as step
 use Rattle.gateway.proofs.waterbook_step.Reads as step-reads
+use Rattle.gateway.proofs.waterbook_void.Kinds as void
+use Rattle.gateway.proofs.waterbook_void.Reads as void-reads
 use Rattle.gateway.proofs.waterbook_clear.Kinds as clear
 use Rattle.gateway.proofs.waterbook_clear.Reads as clear-reads
 use Rattle.gateway.proofs.waterbook_add.Kinds as add
@@ -19,6 +21,10 @@ use Rattle.gateway.proofs.waterbook_read_reading.Kinds as read-reading
 use Rattle.gateway.proofs.waterbook_read_reading.Reads as read-reading-reads
 use Rattle.gateway.proofs.waterbook_write_reading.Kinds as write-reading
 use Rattle.gateway.proofs.waterbook_write_reading.Reads as write-reading-reads
+use Rattle.gateway.proofs.waterbook_read_void.Kinds as read-void
+use Rattle.gateway.proofs.waterbook_read_void.Reads as read-void-reads
+use Rattle.gateway.proofs.waterbook_write_void.Kinds as write-void
+use Rattle.gateway.proofs.waterbook_write_void.Reads as write-void-reads
 use Rattle.gateway.proofs.waterbook_write_answer.Kinds as write-answer
 use Rattle.gateway.proofs.waterbook_write_answer.Reads as write-answer-reads
 use Rattle.gateway.proofs.waterbook_write_sheet.Kinds as write-sheet
@@ -29,6 +35,10 @@ use Rattle.gateway.proofs.waterbook_book.Reads as book-reads
 pub step-settled : (κs : Lfts 5) (a : Dens κs step.ps) (r r' : resT step.r κs .Denot) (x x' : AtExit (endedOf 5 step.ps step.r) κs) → step-reads.Post κs a r x → step-reads.Post κs a r' x'
     → (r ≡ r') × (now (x .1 .1 .0) ≡ now (x' .1 .1 .0)) × (now (x .1 .1 .1 .1 .0) ≡ now (x' .1 .1 .1 .1 .0))
 step-settled κs a r r' x x' p p' = (p .number-is ∙ sym (p' .number-is), p .rows-are ∙ sym (p' .rows-are), p .amounts-are ∙ sym (p' .amounts-are))
+
+pub void-settled : (κs : Lfts 5) (a : Dens κs void.ps) (r r' : resT void.r κs .Denot) (x x' : AtExit (endedOf 5 void.ps void.r) κs) → void-reads.Post κs a r x → void-reads.Post κs a r' x'
+    → (r ≡ r') × (now (x .1 .1 .0) ≡ now (x' .1 .1 .0)) × (now (x .1 .1 .1 .1 .0) ≡ now (x' .1 .1 .1 .1 .0))
+void-settled κs a r r' x x' p p' = (p .number-is ∙ sym (p' .number-is), p .rows-are ∙ sym (p' .rows-are), p .amounts-are ∙ sym (p' .amounts-are))
 
 pub clear-settled : (κs : Lfts 2) (a : Dens κs clear.ps) (r r' : resT clear.r κs .Denot) (x x' : AtExit (endedOf 2 clear.ps clear.r) κs) → clear-reads.Post κs a r x → clear-reads.Post κs a r' x'
     → (r ≡ r') × (now (x .1 .0) ≡ now (x' .1 .0))
@@ -48,11 +58,19 @@ write-card-settled κs a r r' x x' p p' = (p .number-is ∙ sym (p' .number-is),
 
 pub read-reading-settled : (κs : Lfts 3) (a : Dens κs read-reading.ps) (r r' : resT read-reading.r κs .Denot) (x x' : AtExit (endedOf 3 read-reading.ps read-reading.r) κs) → read-reading-reads.Post κs a r x → read-reading-reads.Post κs a r' x'
     → (r ≡ r') × (now (x .1 .0) ≡ now (x' .1 .0)) × (now (x .1 .1 .0) ≡ now (x' .1 .1 .0))
-read-reading-settled κs a r r' x x' p p' = (p .number-is ∙ sym (p' .number-is), p .reading-is ∙ sym (p' .reading-is), p .got-is ∙ sym (p' .got-is))
+read-reading-settled κs a r r' x x' p p' = (p .number-is ∙ sym (p' .number-is), p .line-is ∙ sym (p' .line-is), p .got-is ∙ sym (p' .got-is))
 
 pub write-reading-settled : (κs : Lfts 3) (a : Dens κs write-reading.ps) (r r' : resT write-reading.r κs .Denot) (x x' : AtExit (endedOf 3 write-reading.ps write-reading.r) κs) → write-reading-reads.Post κs a r x → write-reading-reads.Post κs a r' x'
     → (r ≡ r') × (now (x .1 .0) ≡ now (x' .1 .0)) × (now (x .1 .1 .0) ≡ now (x' .1 .1 .0))
 write-reading-settled κs a r r' x x' p p' = (p .number-is ∙ sym (p' .number-is), p .buffer-is ∙ sym (p' .buffer-is), p .got-is ∙ sym (p' .got-is))
+
+pub read-void-settled : (κs : Lfts 3) (a : Dens κs read-void.ps) (r r' : resT read-void.r κs .Denot) (x x' : AtExit (endedOf 3 read-void.ps read-void.r) κs) → read-void-reads.Post κs a r x → read-void-reads.Post κs a r' x'
+    → (r ≡ r') × (now (x .1 .0) ≡ now (x' .1 .0)) × (now (x .1 .1 .0) ≡ now (x' .1 .1 .0))
+read-void-settled κs a r r' x x' p p' = (p .number-is ∙ sym (p' .number-is), p .line-is ∙ sym (p' .line-is), p .got-is ∙ sym (p' .got-is))
+
+pub write-void-settled : (κs : Lfts 3) (a : Dens κs write-void.ps) (r r' : resT write-void.r κs .Denot) (x x' : AtExit (endedOf 3 write-void.ps write-void.r) κs) → write-void-reads.Post κs a r x → write-void-reads.Post κs a r' x'
+    → (r ≡ r') × (now (x .1 .0) ≡ now (x' .1 .0)) × (now (x .1 .1 .0) ≡ now (x' .1 .1 .0))
+write-void-settled κs a r r' x x' p p' = (p .number-is ∙ sym (p' .number-is), p .buffer-is ∙ sym (p' .buffer-is), p .got-is ∙ sym (p' .got-is))
 
 pub write-answer-settled : (κs : Lfts 3) (a : Dens κs write-answer.ps) (r r' : resT write-answer.r κs .Denot) (x x' : AtExit (endedOf 3 write-answer.ps write-answer.r) κs) → write-answer-reads.Post κs a r x → write-answer-reads.Post κs a r' x'
     → (r ≡ r') × (now (x .1 .1 .1 .0) ≡ now (x' .1 .1 .1 .0)) × (now (x .1 .1 .1 .1 .0) ≡ now (x' .1 .1 .1 .1 .0))

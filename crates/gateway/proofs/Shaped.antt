@@ -10,11 +10,10 @@ use Rattle.cell.specs.Refusals.{notAddable, malformed, numberOf, amountsOf}
 use Rattle.site.specs.declared.Added.{Added}
 use Rattle.text.specs.declared.Written.{Written}
 use Rattle.text.specs.declared.card.CardRead.{CardRead}
-use Rattle.text.specs.declared.reading.ReadingRead.{ReadingRead}
 use Rattle.text.specs.Written.{Writes}
 use Rattle.text.specs.Printed.{lineChecks}
-use Rattle.gateway.specs.Shapes.{cardNumbers, readingNumbers, amountNumbers, sheetNumbers}
-use Rattle.gateway.specs.Calls.{illShaped, GivesAnswer, GivesRows, GivesSheet, GivesCard, GivesReading, WritesText}
+use Rattle.gateway.specs.Shapes.{cardNumbers, amountNumbers, sheetNumbers}
+use Rattle.gateway.specs.Calls.{illShaped, GivesAnswer, GivesRows, GivesSheet, GivesCard, GivesLine, WritesText}
 
 -- ---- a step
 module _ {shaped : Bool} {answer : Answer} {after rows : List ℕ} {amounts : List ℤ} where
@@ -24,6 +23,11 @@ module _ {shaped : Bool} {answer : Answer} {after rows : List ℕ} {amounts : Li
   pub answer-given : {number : ℕ} {rows' : List ℕ} {amounts' : List ℤ} → shaped ≡ true → number ≡ numberOf answer → rows' ≡ after → amounts' ≡ amountNumbers (amountsOf answer)
       → GivesAnswer shaped answer after rows amounts number rows' amounts'
   answer-given s n r a = record { number-is = rw s n; rows-are = rw s r; amounts-are = rw s a }
+
+  -- what was given to the site, where the records are shaped
+  pub answer-shaped : {number : ℕ} {rows' : List ℕ} {amounts' : List ℤ} → shaped ≡ true → GivesAnswer true answer after rows amounts number rows' amounts'
+      → GivesAnswer shaped answer after rows amounts number rows' amounts'
+  answer-shaped s g = answer-given s (g .number-is) (g .rows-are) (g .amounts-are)
 
 -- ---- clearing
 module _ {shaped : Bool} {cleared : ℕ} {after rows : List ℕ} where
@@ -62,18 +66,12 @@ module _ {shaped : Bool} {read : CardRead} {filled : List ℤ} {card : List ℕ}
         got-is = rw s (g ∙ ap (λ (x : CardRead). x .taken ∷ x .line ∷ []) e);
       }
 
-module _ {shaped : Bool} {read : ReadingRead} {reading got : List ℕ} where
-  pub reading-ill : shaped ≡ false → GivesReading shaped read reading got illShaped reading got
-  reading-ill s = record { number-is = rw s; reading-is = rw s; got-is = rw s }
+module _ {shaped : Bool} {reads : ℕ} {numbers gets line got : List ℕ} where
+  pub line-ill : shaped ≡ false → GivesLine shaped reads numbers gets line got illShaped line got
+  line-ill s = record { number-is = rw s; line-is = rw s; got-is = rw s }
 
-  pub reading-given : {by : ReadingRead} {reading' got' : List ℕ} → shaped ≡ true → by ≡ read → reading' ≡ readingNumbers (by .reading) → got' ≡ by .taken ∷ by .line ∷ []
-      → GivesReading shaped read reading got (by .number) reading' got'
-  reading-given s e r g =
-      record {
-        number-is = rw s (ap (λ (x : ReadingRead). x .number) e);
-        reading-is = rw s (r ∙ ap (λ (x : ReadingRead). readingNumbers (x .reading)) e);
-        got-is = rw s (g ∙ ap (λ (x : ReadingRead). x .taken ∷ x .line ∷ []) e);
-      }
+  pub line-given : {number : ℕ} {line' got' : List ℕ} → shaped ≡ true → number ≡ reads → line' ≡ numbers → got' ≡ gets → GivesLine shaped reads numbers gets line got number line' got'
+  line-given s n l g = record { number-is = rw s n; line-is = rw s l; got-is = rw s g }
 
 -- ---- texts that are written
 module _ {shaped : Bool} {text buf got : List ℕ} where

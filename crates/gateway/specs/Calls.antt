@@ -8,18 +8,20 @@ use lib.IntN.{ℤ}
 use lib.ListN.{length}
 use Rattle.cell.specs.declared.Answer.{Answer}
 use Rattle.cell.specs.declared.Answer.the-variants.{Accepted}
+use Rattle.cell.specs.declared.Card.{Card}
+use Rattle.cell.specs.declared.Entry.{Entry}
 use Rattle.cell.specs.declared.Refusal.the-variants.{InactiveHead}
 use Rattle.cell.specs.Refusals.{refusalNumber, notAddable, numberOf, amountsOf}
 use Rattle.site.specs.declared.Added.{Added}
 use Rattle.site.specs.Site.{siteAnswer, siteRows, clearNumber, clearRows}
 use Rattle.site.specs.Sheet.{addedOf}
 use Rattle.text.specs.declared.card.CardRead.{CardRead}
-use Rattle.text.specs.declared.reading.ReadingRead.{ReadingRead}
 use Rattle.text.specs.Written.{written, buffer}
 use Rattle.text.specs.Cards.{parse, cardResult, soilResult, cardText, cardChecks}
 use Rattle.text.specs.Readings.{readReading, textOf, readingChecks}
+use Rattle.text.specs.Voids.{readVoid, voidText, voidChecks}
 use Rattle.text.specs.Printed.{lineText, sheetText, lineChecks}
-use Rattle.gateway.specs.Shapes.{cardWidth, cardFrom, cardNumbers, readingWidth, readingFrom, readingNumbers, amountsWidth, amountNumbers, amountsFrom, sheetWidth, sheetNumbers, sheetFrom, amountsRecharge, sheetRecharge, signsFrom, zeros}
+use Rattle.gateway.specs.Shapes.{cardWidth, cardFrom, cardNumbers, readingWidth, readingFrom, readingNumbers, noticeWidth, noticeFrom, noticeNumbers, amountsWidth, amountNumbers, amountsFrom, sheetWidth, sheetNumbers, sheetFrom, amountsRecharge, sheetRecharge, signsFrom, zeros}
 
 -- the number of a call whose records are ill shaped
 abbrev pub illShaped : ℕ
@@ -37,11 +39,17 @@ pub record GivesAnswer (shaped : Bool) (answer : Answer) (after rows : List ℕ)
   pub rows-are : rows' ≡ cond shaped after rows
   pub amounts-are : amounts' ≡ cond shaped (amountNumbers (amountsOf answer)) amounts
 
+-- of an entry, a reading or a void [3]
+abbrev pub Enters : Bool → Card → List ℤ → List ℕ → Entry → List ℤ → ℕ → List ℕ → List ℤ → Type 0
+Enters shaped card soil rows e amounts = GivesAnswer shaped (siteAnswer card soil rows e) (siteRows card soil rows e) rows amounts
+
 abbrev pub Steps : List ℕ → List ℤ → List ℕ → List ℕ → List ℤ → ℕ → List ℕ → List ℤ → Type 0
 Steps card soil rows reading amounts =
-    GivesAnswer (wide card cardWidth && wide reading readingWidth && wide amounts amountsWidth)
-    (siteAnswer (cardFrom card) soil rows (readingFrom reading))
-    (siteRows (cardFrom card) soil rows (readingFrom reading)) rows amounts
+    Enters (wide card cardWidth && wide reading readingWidth && wide amounts amountsWidth) (cardFrom card) soil rows (Entry.Reading (readingFrom reading)) amounts
+
+abbrev pub Voids : List ℕ → List ℤ → List ℕ → List ℕ → List ℤ → ℕ → List ℕ → List ℤ → Type 0
+Voids card soil rows notice amounts =
+    Enters (wide card cardWidth && wide notice noticeWidth && wide amounts amountsWidth) (cardFrom card) soil rows (Entry.Void (noticeFrom notice)) amounts
 
 -- ---- clearing
 pub record GivesRows (shaped : Bool) (cleared : ℕ) (after rows : List ℕ) (number : ℕ) (rows' : List ℕ) : Type 0 where
@@ -82,13 +90,22 @@ pub record GivesCard (shaped : Bool) (read : CardRead) (filled : List ℤ) (card
 abbrev pub ReadsCard : List ℕ → List ℕ → List ℤ → List ℕ → ℕ → List ℕ → List ℤ → List ℕ → Type 0
 ReadsCard text card soil got = GivesCard (wide card cardWidth && wide got gotWidth) (cardResult (parse text) (length soil)) (soilResult (parse text) soil) card soil got
 
-pub record GivesReading (shaped : Bool) (read : ReadingRead) (reading got : List ℕ) (number : ℕ) (reading' got' : List ℕ) : Type 0 where
-  pub number-is : number ≡ cond shaped (read .number) illShaped
-  pub reading-is : reading' ≡ cond shaped (readingNumbers (read .reading)) reading
-  pub got-is : got' ≡ cond shaped (read .taken ∷ read .line ∷ []) got
+-- one line: the number of the call, the numbers of its record, and what `got` takes
+pub record GivesLine (shaped : Bool) (reads : ℕ) (numbers gets line got : List ℕ) (number : ℕ) (line' got' : List ℕ) : Type 0 where
+  pub number-is : number ≡ cond shaped reads illShaped
+  pub line-is : line' ≡ cond shaped numbers line
+  pub got-is : got' ≡ cond shaped gets got
 
 abbrev pub ReadsReading : List ℕ → List ℕ → List ℕ → ℕ → List ℕ → List ℕ → Type 0
-ReadsReading text reading got = GivesReading (wide reading readingWidth && wide got gotWidth) (readReading text) reading got
+ReadsReading text reading got =
+    let read = readReading text in
+    GivesLine (wide reading readingWidth && wide got gotWidth) (read .number) (readingNumbers (read .reading)) (read .taken ∷ read .line ∷ []) reading got
+
+-- [3]
+abbrev pub ReadsVoid : List ℕ → List ℕ → List ℕ → ℕ → List ℕ → List ℕ → Type 0
+ReadsVoid text notice got =
+    let read = readVoid text in
+    GivesLine (wide notice noticeWidth && wide got gotWidth) (read .number) (noticeNumbers (read .notice)) (read .taken ∷ read .line ∷ []) notice got
 
 -- ---- texts that are written: `got` takes the length and 0
 pub record WritesText (shaped : Bool) (checks : List (ℕ × Bool)) (text buf got : List ℕ) (number : ℕ) (buf' got' : List ℕ) : Type 0 where
@@ -101,6 +118,10 @@ WritesCard card soil buf got = WritesText (wide card cardWidth && wide got gotWi
 
 abbrev pub WritesReading : List ℕ → List ℕ → List ℕ → ℕ → List ℕ → List ℕ → Type 0
 WritesReading reading buf got = WritesText (wide reading readingWidth && wide got gotWidth) (readingChecks (readingFrom reading) buf) (textOf (readingFrom reading)) buf got
+
+-- [3]
+abbrev pub WritesVoid : List ℕ → List ℕ → List ℕ → ℕ → List ℕ → List ℕ → Type 0
+WritesVoid notice buf got = WritesText (wide notice noticeWidth && wide got gotWidth) (voidChecks (noticeFrom notice) buf) (voidText (noticeFrom notice)) buf got
 
 -- by number and signs a host's number and amounts can be an answer of a step: accepted, and no amount negative but recharge; or refused by one of its checks, with ten zeros
 unfoldable pub isAnswer : ℕ → List ℤ → Bool

@@ -12,6 +12,7 @@ use Rattle.head.specs.Pattern.{patternOf, carriedOf}
 use Rattle.cell.specs.declared.Amounts.{Amounts}
 use Rattle.cell.specs.declared.Card.{Card}
 use Rattle.cell.specs.declared.Net.{Net}
+use Rattle.cell.specs.declared.Notice.{Notice}
 use Rattle.cell.specs.declared.Reading.{Reading}
 use Rattle.cell.specs.declared.Water.{Water}
 use Rattle.cell.specs.Water.{water, net}
@@ -51,6 +52,16 @@ readingFrom l =
 unfoldable pub readingNumbers : Reading → List ℕ
 readingNumbers r =
     r .cell ∷ r .life ∷ r .count ∷ r .rain ∷ r .irrig ∷ r .septic ∷ r .etmin ∷ r .pet ∷ r .amc ∷ patternOf (carried r) ∷ []
+
+-- [3] a notice: cell, life, count
+abbrev pub noticeWidth : ℕ
+noticeWidth = 3
+
+unfoldable pub noticeFrom : List ℕ → Notice
+noticeFrom l = record { cell = getD l 0 0; life = getD l 1 0; count = getD l 2 0 }
+
+unfoldable pub noticeNumbers : Notice → List ℕ
+noticeNumbers n = n .cell ∷ n .life ∷ n .count ∷ []
 
 -- the ten amounts: inflow, runoff, etvad, etstor, etsat, drain, release, stored, recharge, left
 abbrev pub amountsWidth : ℕ

@@ -1,8 +1,12 @@
 // The static library of a gateway: the calls that a host in C or Rust makes. include/waterbook.h says what each number means.
 ghost use mathlib.Core.Path.{_≡_};
-ghost use Rattle.gateway.specs.Calls.{Steps, Clears, Adds, ReadsCard, ReadsReading, WritesCard, WritesReading, WritesAnswer, WritesSheet};
+ghost use mathlib.Core.Bool.{true};
+ghost use lib.ListN.{length};
+ghost use Rattle.gateway.specs.Calls.{Enters, Steps, Voids, Clears, Adds, ReadsCard, ReadsReading, ReadsVoid, WritesCard, WritesReading, WritesVoid, WritesAnswer, WritesSheet};
 ghost use Rattle.journal.specs.Book.{BookGives};
 use cell::Answer;
+use cell::Card;
+use cell::Entry;
 
 mod shapes;
 
@@ -26,12 +30,50 @@ pub extern "C" fn waterbook_step(
     if amounts.len() != 10 {
         return 255;
     }
-    let answer = site::step(
+    give(
         shapes::card_from(card),
         soil,
         rows,
-        shapes::reading_from(reading),
-    );
+        Entry::Reading(shapes::reading_from(reading)),
+        amounts,
+    )
+}
+
+// One void, given to the site.
+#[no_mangle]
+pub extern "C" fn waterbook_void(
+    card: &[u32],
+    soil: &[i64],
+    rows: &mut [u32],
+    notice: &[u32],
+    amounts: &mut [i64],
+) -> u32
+    ensures { λ n. ⌜ Voids (now (card .entry)) (now (soil .entry)) (now (rows .entry)) (now (notice .entry)) (now (amounts .entry)) n (now (rows .exit)) (now (amounts .exit)) ⌝ }
+{
+    if card.len() != 32 {
+        return 255;
+    }
+    if notice.len() != 3 {
+        return 255;
+    }
+    if amounts.len() != 10 {
+        return 255;
+    }
+    give(
+        shapes::card_from(card),
+        soil,
+        rows,
+        Entry::Void(shapes::notice_from(notice)),
+        amounts,
+    )
+}
+
+// One entry, given to the site: the amounts and the number of its answer.
+fn give(card: Card, soil: &[i64], rows: &mut [u32], e: Entry, amounts: &mut [i64]) -> u32
+    requires { ⌜ length (now amounts) ≡ 10 ⌝ }
+    ensures { λ n. ⌜ Enters true card (now (soil .entry)) (now (rows .entry)) e (now (amounts .entry)) n (now (rows .exit)) (now (amounts .exit)) ⌝ }
+{
+    let answer = site::step(card, soil, rows, e);
     shapes::put_amounts(cell::amounts_of(answer), amounts);
     cell::number_of(answer)
 }
@@ -150,6 +192,41 @@ pub extern "C" fn waterbook_write_reading(reading: &[u32], buf: &mut [u8], got: 
         return 255;
     }
     let w = text::reading::write(shapes::reading_from(reading), buf);
+    got[0] = w.len;
+    got[1] = 0;
+    w.number
+}
+
+// Reads a void at the start of a text.
+#[no_mangle]
+pub extern "C" fn waterbook_read_void(text: &[u8], notice: &mut [u32], got: &mut [usize]) -> u32
+    ensures { λ n. ⌜ ReadsVoid (now (text .entry)) (now (notice .entry)) (now (got .entry)) n (now (notice .exit)) (now (got .exit)) ⌝ }
+{
+    if notice.len() != 3 {
+        return 255;
+    }
+    if got.len() != 2 {
+        return 255;
+    }
+    let r = text::void::read(text);
+    shapes::put_notice(r.notice, notice);
+    got[0] = r.taken;
+    got[1] = r.line;
+    r.number
+}
+
+// Writes a void at the start of a buffer.
+#[no_mangle]
+pub extern "C" fn waterbook_write_void(notice: &[u32], buf: &mut [u8], got: &mut [usize]) -> u32
+    ensures { λ n. ⌜ WritesVoid (now (notice .entry)) (now (buf .entry)) (now (got .entry)) n (now (buf .exit)) (now (got .exit)) ⌝ }
+{
+    if notice.len() != 3 {
+        return 255;
+    }
+    if got.len() != 2 {
+        return 255;
+    }
+    let w = text::void::write(shapes::notice_from(notice), buf);
     got[0] = w.len;
     got[1] = 0;
     w.number

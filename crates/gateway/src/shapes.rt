@@ -7,11 +7,12 @@ ghost use mir.Syntax.{w64};
 ghost use mir.Val.{SFits};
 ghost use Rattle.form.specs.Signed.{isNeg};
 ghost use Rattle.site.specs.SheetLaws.{AmountsWithin, SheetIn};
-ghost use Rattle.gateway.specs.Shapes.{cardFrom, cardNumbers, readingFrom, readingNumbers, amountNumbers, amountsFrom, sheetNumbers, sheetFrom, signsFrom, zeros, AllFit};
+ghost use Rattle.gateway.specs.Shapes.{cardFrom, cardNumbers, readingFrom, readingNumbers, noticeFrom, noticeNumbers, amountNumbers, amountsFrom, sheetNumbers, sheetFrom, signsFrom, zeros, AllFit};
 ghost use Rattle.gateway.specs.Calls.{isAnswer};
 use cell::Amounts;
 use cell::Card;
 use cell::Net;
+use cell::Notice;
 use cell::Reading;
 use cell::Water;
 use form::words::negative;
@@ -116,6 +117,26 @@ pub fn put_reading(r: Reading, out: &mut [u32])
         value: r.head,
         nan: r.nan,
     });
+}
+
+pub fn notice_from(l: &[u32]) -> Notice
+    requires { ⌜ length (now l) ≡ 3 ⌝ }
+    ensures { λ r. ⌜ r ≡ noticeFrom (now (l .entry)) ⌝ }
+{
+    Notice {
+        cell: l[0],
+        life: l[1],
+        count: l[2],
+    }
+}
+
+pub fn put_notice(n: Notice, out: &mut [u32])
+    requires { ⌜ length (now out) ≡ 3 ⌝ }
+    ensures { λ _. ⌜ now (out .exit) ≡ noticeNumbers n ⌝ }
+{
+    out[0] = n.cell;
+    out[1] = n.life;
+    out[2] = n.count;
 }
 
 pub fn put_amounts(a: Amounts, out: &mut [i64])

@@ -3,4 +3,5 @@ pub mod Level
 pub mod Class
 pub mod Pattern
 pub mod LevelLaws
+pub mod ClassLaws
 pub mod PatternLaws

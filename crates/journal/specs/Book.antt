@@ -14,7 +14,7 @@ use Rattle.site.specs.Site.{rowWidth, clearNumber, clearRows}
 use Rattle.site.specs.Sheet.{noSteps, afterAll}
 use Rattle.text.specs.Cards.{parse}
 use Rattle.text.specs.Printed.{sheetText}
-use Rattle.journal.specs.Entries.{readingsIn, entriesOf, answersOf, linesText}
+use Rattle.journal.specs.Entries.{entriesIn, answeredOf, answersOf, linesText}
 
 -- ---- the lines that stand for a refusal
 abbrev pub codeForm : List ℕ
@@ -29,24 +29,24 @@ codeText number = formText codeForm (pos number ∷ [])
 unfoldable pub malformedText : ℕ → List ℕ
 malformedText line = formText malformedForm (pos line ∷ [])
 
--- ---- the readings
--- a line per reading, then the sheet; at a malformed line its number, and no sheet. `line` is the number of the line that stands first in s
-unfoldable pub readingsText : ℕ → Card → List ℤ → List ℕ → Sheet → ℕ → List ℕ → List ℕ
-readingsText n card soil rows sheet line s =
-    let read = readingsIn n s in
-    let entries = entriesOf card soil rows (read .readings) in
-    linesText entries ++ cond (read .wellFormed) (sheetText (afterAll sheet (answersOf entries))) (malformedText (line + length entries))
+-- ---- the entries
+-- a line per entry, then the sheet; at a malformed line its number, and no sheet. `line` is the number of the line that stands first in s
+unfoldable pub entriesText : ℕ → Card → List ℤ → List ℕ → Sheet → ℕ → List ℕ → List ℕ
+entriesText n card soil rows sheet line s =
+    let read = entriesIn n s in
+    let answered = answeredOf card soil rows (read .entries) in
+    linesText answered ++ cond (read .wellFormed) (sheetText (afterAll sheet (answersOf answered))) (malformedText (line + length answered))
 
 -- ---- the book
 -- no row is stored before the site is cleared
 abbrev pub freshRows : Card → List ℕ
 freshRows card = replicate (rowWidth * card .cells) 0
 
--- with the card read: cleared, then the readings, which start below the card's lines
+-- with the card read: cleared, then the entries, which start below the card's lines
 unfoldable pub clearedText : Card → List ℤ → List ℕ → List ℕ → List ℕ
 clearedText card soil rows rest =
     let number = clearNumber card rows in
-    let more = readingsText (length rest) card soil (clearRows card rows) noSteps (card .cells + 2) rest in
+    let more = entriesText (length rest) card soil (clearRows card rows) noSteps (card .cells + 2) rest in
     cond (eqb number 0) more (codeText number)
 
 -- more than 65,536 bytes are line 0; else the whole card first, and its malformed line where it has one

@@ -11,20 +11,21 @@ use lib.IntN.{ℤ}
 use lib.ListN.{length, drop, length-append, length-drop}
 use Rattle.form.specs.LengthLaws.{text-most}
 use Rattle.cell.specs.declared.Card.{Card}
+use Rattle.cell.specs.Ranges.{cellOf}
 use Rattle.cell.specs.declared.Answer.{Answer}
 use Rattle.site.specs.declared.Sheet.{Sheet}
 use Rattle.site.specs.Site.{siteAnswer, siteRows, clearNumber, clearRows}
 use Rattle.site.specs.SiteLaws.{clear-most}
 use Rattle.site.specs.Sheet.{noSteps, addedOf}
-use Rattle.site.specs.SheetLaws.{SheetIn, sheet-none, sheet-added, site-within}
-use Rattle.text.specs.declared.reading.ReadingRead.{ReadingRead}
-use Rattle.text.specs.Readings.{readReading}
+use Rattle.site.specs.SheetLaws.{SheetIn, sheet-none, sheet-added}
+use Rattle.text.specs.declared.entry.EntryRead.{EntryRead}
+use Rattle.text.specs.Voids.{readEntry}
 use Rattle.text.specs.Cards.{Parsed, parse}
 use Rattle.text.specs.CardTexts.{line-most, cells-most}
-use Rattle.text.specs.LineLaws.{reading-takes, reading-cell, answer-most, sheet-most}
+use Rattle.text.specs.LineLaws.{entry-takes, entry-room, sheet-most}
 use Rattle.text.specs.Printed.{answerText, sheetText}
-use Rattle.journal.specs.Entries.{Entry, readingsIn, entriesOf, linesText}
-use Rattle.journal.specs.Book.{codeForm, codeText, malformedForm, malformedText, readingsText, freshRows, clearedText, inputLimit, bookOf, roomFor, BookGives}
+use Rattle.journal.specs.Entries.{Answered, entriesIn, answeredOf, linesText}
+use Rattle.journal.specs.Book.{codeForm, codeText, malformedForm, malformedText, entriesText, freshRows, clearedText, inputLimit, bookOf, roomFor, BookGives}
 
 -- a line that stands for a refusal
 pub malformed-most : (line : ℕ) → line < 2 ^ 64 → length (malformedText line) ≤ 35
@@ -35,70 +36,70 @@ pub code-most : (number : ℕ) → number < 2 ^ 64 → length (codeText number) 
 unfolding codeText
 code-most number h = text-most codeForm _ (h, tt)
 
--- ---- the text of the readings, by what stands first in s
-pub readings-end : (n : ℕ) (card : Card) (soil : List ℤ) (rows : List ℕ) (sheet : Sheet) (line : ℕ) (s : List ℕ) → length s ≡ 0 → readingsText n card soil rows sheet line s ≡ sheetText sheet
-unfolding readingsText readingsIn entriesOf
-readings-end zero card soil rows sheet line s e = refl
-readings-end (suc n) card soil rows sheet line s e = rw (eq-eqb (length s) 0 e)
+-- ---- the text of the entries, by what stands first in s
+pub entries-end : (n : ℕ) (card : Card) (soil : List ℤ) (rows : List ℕ) (sheet : Sheet) (line : ℕ) (s : List ℕ) → length s ≡ 0 → entriesText n card soil rows sheet line s ≡ sheetText sheet
+unfolding entriesText entriesIn answeredOf
+entries-end zero card soil rows sheet line s e = refl
+entries-end (suc n) card soil rows sheet line s e = rw (eq-eqb (length s) 0 e)
 
-pub readings-stop : (n : ℕ) (card : Card) (soil : List ℤ) (rows : List ℕ) (sheet : Sheet) (line : ℕ) (s : List ℕ) → 0 < length s → length s ≤ n → ¬ (readReading s .number ≡ 0)
-    → readingsText n card soil rows sheet line s ≡ malformedText line
-unfolding readingsText readingsIn entriesOf
-readings-stop zero card soil rows sheet line s h l e = absurd (omega arith)
-readings-stop (suc n) card soil rows sheet line s h l e = rw (ne-eqb (length s) 0 (λ z. omega arith), ne-eqb (readReading s .number) 0 e, add-zero line)
+pub entries-stop : (n : ℕ) (card : Card) (soil : List ℤ) (rows : List ℕ) (sheet : Sheet) (line : ℕ) (s : List ℕ) → 0 < length s → length s ≤ n → ¬ (readEntry s .number ≡ 0)
+    → entriesText n card soil rows sheet line s ≡ malformedText line
+unfolding entriesText entriesIn answeredOf
+entries-stop zero card soil rows sheet line s h l e = absurd (omega arith)
+entries-stop (suc n) card soil rows sheet line s h l e = rw (ne-eqb (length s) 0 (λ z. omega arith), ne-eqb (readEntry s .number) 0 e, add-zero line)
 
-pub readings-more : (n : ℕ) (card : Card) (soil : List ℤ) (rows : List ℕ) (sheet : Sheet) (line : ℕ) (s : List ℕ) → 0 < length s → length s ≤ n → readReading s .number ≡ 0
-    → readingsText n card soil rows sheet line s
-    ≡ answerText (readReading s .reading .cell) (siteAnswer card soil rows (readReading s .reading))
-    ++ readingsText (n - 1) card soil (siteRows card soil rows (readReading s .reading)) (addedOf sheet (siteAnswer card soil rows (readReading s .reading)) .sheet) (line + 1) (drop (readReading s .taken) s)
-unfolding readingsText readingsIn entriesOf
-readings-more zero card soil rows sheet line s h l e = absurd (omega arith)
-readings-more (suc n) card soil rows sheet line s h l e =
-    let x = readReading s in
-    let later : List Entry = entriesOf card soil (siteRows card soil rows (x .reading)) (readingsIn n (drop (x .taken) s) .readings) in
+pub entries-more : (n : ℕ) (card : Card) (soil : List ℤ) (rows : List ℕ) (sheet : Sheet) (line : ℕ) (s : List ℕ) → 0 < length s → length s ≤ n → readEntry s .number ≡ 0
+    → entriesText n card soil rows sheet line s
+    ≡ answerText (cellOf (readEntry s .entry)) (siteAnswer card soil rows (readEntry s .entry))
+    ++ entriesText (n - 1) card soil (siteRows card soil rows (readEntry s .entry)) (addedOf sheet (siteAnswer card soil rows (readEntry s .entry)) .sheet) (line + 1) (drop (readEntry s .taken) s)
+unfolding entriesText entriesIn answeredOf
+entries-more zero card soil rows sheet line s h l e = absurd (omega arith)
+entries-more (suc n) card soil rows sheet line s h l e =
+    let x = readEntry s in
+    let later : List Answered = answeredOf card soil (siteRows card soil rows (x .entry)) (entriesIn n (drop (x .taken) s) .entries) in
     let m : suc n - 1 ≡ n = omega arith in
     let k : line + suc (length later) ≡ line + 1 + length later = omega arith in
-    rw (ne-eqb (length s) 0 (λ z. omega arith), eq-eqb (x .number) 0 e, m, k) (append-assoc (answerText (x .reading .cell) (siteAnswer card soil rows (x .reading))) (linesText later) _)
+    rw (ne-eqb (length s) 0 (λ z. omega arith), eq-eqb (x .number) 0 e, m, k) (append-assoc (answerText (cellOf (x .entry)) (siteAnswer card soil rows (x .entry))) (linesText later) _)
 
--- the readings: 5 bytes for each byte of theirs, and the last line
-pub readings-most : (n : ℕ) (card : Card) (soil : List ℤ) (rows : List ℕ) (sheet : Sheet) (line : ℕ) (s : List ℕ) → length s ≤ n → SheetIn sheet → line + length s < 2 ^ 64
-    → length (readingsText n card soil rows sheet line s) ≤ 5 * length s + 300
-readings-most zero card soil rows sheet line s h k l = rw (readings-end zero card soil rows sheet line s (omega arith)) (omega (arith, sheet-most sheet k))
-readings-most (suc n) card soil rows sheet line s h k l =
+-- the entries: 5 bytes for each byte of theirs, and the last line
+pub entries-most : (n : ℕ) (card : Card) (soil : List ℤ) (rows : List ℕ) (sheet : Sheet) (line : ℕ) (s : List ℕ) → length s ≤ n → SheetIn sheet → line + length s < 2 ^ 64
+    → length (entriesText n card soil rows sheet line s) ≤ 5 * length s + 300
+entries-most zero card soil rows sheet line s h k l = rw (entries-end zero card soil rows sheet line s (omega arith)) (omega (arith, sheet-most sheet k))
+entries-most (suc n) card soil rows sheet line s h k l =
     go (eqb (length s) 0) refl (eqb (x .number) 0) refl
-    (readings-most n card soil (siteRows card soil rows (x .reading)) (addedOf sheet answer .sheet) (line + 1) (drop (x .taken) s))
+    (entries-most n card soil (siteRows card soil rows (x .entry)) (addedOf sheet answer .sheet) (line + 1) (drop (x .taken) s))
   where
-    x : ReadingRead
-    x = readReading s
+    x : EntryRead
+    x = readEntry s
 
     answer : Answer
-    answer = siteAnswer card soil rows (x .reading)
+    answer = siteAnswer card soil rows (x .entry)
 
     more : List ℕ
-    more = readingsText n card soil (siteRows card soil rows (x .reading)) (addedOf sheet answer .sheet) (line + 1) (drop (x .taken) s)
+    more = entriesText n card soil (siteRows card soil rows (x .entry)) (addedOf sheet answer .sheet) (line + 1) (drop (x .taken) s)
 
     go : (b : Bool) → eqb (length s) 0 ≡ b → (c : Bool) → eqb (x .number) 0 ≡ c
         → (length (drop (x .taken) s) ≤ n → SheetIn (addedOf sheet answer .sheet) → line + 1 + length (drop (x .taken) s) < 2 ^ 64 → length more ≤ 5 * length (drop (x .taken) s) + 300)
-        → length (readingsText (suc n) card soil rows sheet line s) ≤ 5 * length s + 300
-    go true e c f ih = rw (readings-end (suc n) card soil rows sheet line s (eqb-true (length s) 0 e)) (omega (arith, sheet-most sheet k))
+        → length (entriesText (suc n) card soil rows sheet line s) ≤ 5 * length s + 300
+    go true e c f ih = rw (entries-end (suc n) card soil rows sheet line s (eqb-true (length s) 0 e)) (omega (arith, sheet-most sheet k))
     go false e true f ih =
-        let t = reading-takes s (eqb-true (x .number) 0 f) in
+        let t = entry-takes s (eqb-true (x .number) 0 f) in
         let d = length-drop (x .taken) s in
-        let a = answer-most (x .reading .cell) answer (reading-cell s) (site-within card soil rows (x .reading)) in
+        let a = entry-room card soil rows s (eqb-true (x .number) 0 f) in
         let m : suc n - 1 ≡ n = omega arith in
-        rw (readings-more (suc n) card soil rows sheet line s (omega (arith, t .0, t .1)) h (eqb-true (x .number) 0 f), m)
-        (omega (arith, length-append (answerText (x .reading .cell) answer) more, t .0, t .1, d, a, ih (omega (arith, t .0, t .1, d)) (sheet-added sheet answer k) (omega (arith, t .0, t .1, d))))
+        rw (entries-more (suc n) card soil rows sheet line s (omega (arith, t .0, t .1)) h (eqb-true (x .number) 0 f), m)
+        (omega (arith, length-append (answerText (cellOf (x .entry)) answer) more, t .0, t .1, d, a, ih (omega (arith, t .0, t .1, d)) (sheet-added sheet answer k) (omega (arith, t .0, t .1, d))))
     go false e false f ih =
         let some : 0 < length s = omega (arith, eqb-false (length s) 0 e) in
-        rw (readings-stop (suc n) card soil rows sheet line s some h (eqb-false (x .number) 0 f)) (omega (arith, malformed-most line (omega arith)))
+        rw (entries-stop (suc n) card soil rows sheet line s some h (eqb-false (x .number) 0 f)) (omega (arith, malformed-most line (omega arith)))
 
--- ---- with the card read: what clearing refuses, or the readings
+-- ---- with the card read: what clearing refuses, or the entries
 pub cleared-code : (card : Card) (soil : List ℤ) (rows rest : List ℕ) → ¬ (clearNumber card rows ≡ 0) → clearedText card soil rows rest ≡ codeText (clearNumber card rows)
 unfolding clearedText
 cleared-code card soil rows rest e = rw (ne-eqb (clearNumber card rows) 0 e)
 
 pub cleared-more : (card : Card) (soil : List ℤ) (rows rest : List ℕ) → clearNumber card rows ≡ 0
-    → clearedText card soil rows rest ≡ readingsText (length rest) card soil (clearRows card rows) noSteps (card .cells + 2) rest
+    → clearedText card soil rows rest ≡ entriesText (length rest) card soil (clearRows card rows) noSteps (card .cells + 2) rest
 unfolding clearedText
 cleared-more card soil rows rest e = rw (eq-eqb (clearNumber card rows) 0 e)
 
@@ -141,7 +142,7 @@ book-most s = go (ltb inputLimit (length s)) refl (eqb (p .line) 0) refl (eqb nu
         let d = length-drop (p .next) s in
         let m = cells-most s (eqb-true (p .line) 0 f) in
         let l = ltb-false inputLimit (length s) e in
-        rw (e, f, g) (omega (arith, d, readings-most (length rest) (p .card) (p .soil) (clearRows (p .card) rows) noSteps (p .card .cells + 2) rest (omega arith) sheet-none (omega (arith, d, m, l))))
+        rw (e, f, g) (omega (arith, d, entries-most (length rest) (p .card) (p .soil) (clearRows (p .card) rows) noSteps (p .card .cells + 2) rest (omega arith) sheet-none (omega (arith, d, m, l))))
 
 -- ---- what the contract tells of the length: the book lies within the buffer
 pub within-buffer : (s b : List ℕ) (len : ℕ) (after : List ℕ) → BookGives s b len after → len ≤ length b

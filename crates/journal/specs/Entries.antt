@@ -1,4 +1,4 @@
--- The readings of a journal, read first, then answered. Definitions only.
+-- The entries of a journal, readings and voids, read first, then answered. Definitions only.
 use Prim.Native.Nat.{ℕ, zero, suc}
 use mathlib.Core.Bool.{Bool, true, false, cond}
 use mathlib.Core.List.{List, [], _∷_, _++_, map}
@@ -7,49 +7,50 @@ use lib.IntN.{ℤ}
 use lib.ListN.{length, drop}
 use Rattle.cell.specs.declared.Answer.{Answer}
 use Rattle.cell.specs.declared.Card.{Card}
-use Rattle.cell.specs.declared.Reading.{Reading}
+use Rattle.cell.specs.declared.Entry.{Entry}
+use Rattle.cell.specs.Ranges.{cellOf}
 use Rattle.site.specs.Site.{siteAnswer, siteRows}
-use Rattle.text.specs.Readings.{readReading}
+use Rattle.text.specs.Voids.{readEntry}
 use Rattle.text.specs.Printed.{answerText}
 
--- the readings of a text in their order up to the first malformed line, and whether there is none
-pub record ReadingsRead : Type 0 where
-  pub readings : List Reading
+-- the entries of a text in their order up to the first malformed line, and whether there is none
+pub record EntriesRead : Type 0 where
+  pub entries : List Entry
   pub wellFormed : Bool
 
--- at the end of the text, at a malformed line, and at a reading with what is read behind it
-abbrev pub atEnd : ReadingsRead
-atEnd = record { readings = []; wellFormed = true }
+-- at the end of the text, at a malformed line, and at an entry with what is read behind it
+abbrev pub atEnd : EntriesRead
+atEnd = record { entries = []; wellFormed = true }
 
-abbrev pub atMalformed : ReadingsRead
-atMalformed = record { readings = []; wellFormed = false }
+abbrev pub atMalformed : EntriesRead
+atMalformed = record { entries = []; wellFormed = false }
 
-abbrev pub atReading : Reading → ReadingsRead → ReadingsRead
-atReading r later = record { readings = r ∷ later .readings; wellFormed = later .wellFormed }
+abbrev pub atEntry : Entry → EntriesRead → EntriesRead
+atEntry e later = record { entries = e ∷ later .entries; wellFormed = later .wellFormed }
 
 -- those of s; each takes a byte or more, so n = length s of them are enough
-unfoldable pub readingsIn : ℕ → List ℕ → ReadingsRead
-readingsIn zero s = atEnd
-readingsIn (suc n) s =
-    let x = readReading s in
-    let more = atReading (x .reading) (readingsIn n (drop (x .taken) s)) in
+unfoldable pub entriesIn : ℕ → List ℕ → EntriesRead
+entriesIn zero s = atEnd
+entriesIn (suc n) s =
+    let x = readEntry s in
+    let more = atEntry (x .entry) (entriesIn n (drop (x .taken) s)) in
     let line = cond (eqb (x .number) 0) more atMalformed in
     cond (eqb (length s) 0) atEnd line
 
--- a reading's cell as read, and its answer
-pub record Entry : Type 0 where
+-- an entry's cell as read, and its answer
+pub record Answered : Type 0 where
   pub cell : ℕ
   pub answer : Answer
 
--- those of readings, each answered from the rows that the one before it left
-unfoldable pub entriesOf : Card → List ℤ → List ℕ → List Reading → List Entry
-entriesOf card soil rows [] = []
-entriesOf card soil rows (r ∷ rs) = record { cell = r .cell; answer = siteAnswer card soil rows r } ∷ entriesOf card soil (siteRows card soil rows r) rs
+-- those of entries, each answered from the rows that the one before it left
+unfoldable pub answeredOf : Card → List ℤ → List ℕ → List Entry → List Answered
+answeredOf card soil rows [] = []
+answeredOf card soil rows (e ∷ es) = record { cell = cellOf e; answer = siteAnswer card soil rows e } ∷ answeredOf card soil (siteRows card soil rows e) es
 
-abbrev pub answersOf : List Entry → List Answer
-answersOf es = map (λ (e : Entry). e .answer) es
+abbrev pub answersOf : List Answered → List Answer
+answersOf xs = map (λ (x : Answered). x .answer) xs
 
 -- a line for each
-abbrev pub linesText : List Entry → List ℕ
+abbrev pub linesText : List Answered → List ℕ
 linesText [] = []
-linesText (e ∷ es) = answerText (e .cell) (e .answer) ++ linesText es
+linesText (x ∷ xs) = answerText (x .cell) (x .answer) ++ linesText xs

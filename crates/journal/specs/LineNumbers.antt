@@ -12,33 +12,33 @@ use Rattle.form.specs.EndLaws.{ends-append}
 use Rattle.cell.specs.declared.Card.{Card}
 use Rattle.site.specs.Site.{clearNumber, clearRows}
 use Rattle.site.specs.Sheet.{noSteps, afterAll}
-use Rattle.text.specs.Readings.{readReading}
+use Rattle.text.specs.Voids.{readEntry}
 use Rattle.text.specs.Cards.{parse, cardText}
 use Rattle.text.specs.CardTexts.{card-one}
 use Rattle.text.specs.CardEnds.{Malformed, card-stops, card-ends}
 use Rattle.text.specs.Printed.{sheetText}
-use Rattle.journal.specs.Entries.{ReadingsRead, readingsIn, Entry, entriesOf, answersOf, linesText}
-use Rattle.journal.specs.Book.{codeText, malformedText, readingsText, freshRows, inputLimit, bookOf}
+use Rattle.journal.specs.Entries.{EntriesRead, entriesIn, Answered, answeredOf, answersOf, linesText}
+use Rattle.journal.specs.Book.{codeText, malformedText, entriesText, freshRows, inputLimit, bookOf}
 use Rattle.journal.specs.BookLaws.{cleared-code, cleared-more, book-malformed, book-read}
-use Rattle.journal.specs.EntryLaws.{textsOf, LinesOf, lines-of, entry-each}
+use Rattle.journal.specs.EntryLaws.{textsOf, LinesOf, lines-of, answered-each}
 
--- what stands below the card, the readings in it and their entries; the texts of the card and of those readings
+-- what stands below the card, the entries in it and their answers; the texts of the card and of those entries
 abbrev pub below : List ℕ → List ℕ
 below s = drop (parse s .next) s
 
-abbrev pub readBelow : List ℕ → ReadingsRead
-readBelow s = readingsIn (length (below s)) (below s)
+abbrev pub readBelow : List ℕ → EntriesRead
+readBelow s = entriesIn (length (below s)) (below s)
 
-abbrev pub entriesBelow : List ℕ → List Entry
-entriesBelow s = entriesOf (parse s .card) (parse s .soil) (clearRows (parse s .card) (freshRows (parse s .card))) (readBelow s .readings)
+abbrev pub answeredBelow : List ℕ → List Answered
+answeredBelow s = answeredOf (parse s .card) (parse s .soil) (clearRows (parse s .card) (freshRows (parse s .card))) (readBelow s .entries)
 
 abbrev pub linesRead : List ℕ → List ℕ
-linesRead s = cardText (parse s .card) (parse s .soil) ++ textsOf (readBelow s .readings)
+linesRead s = cardText (parse s .card) (parse s .soil) ++ textsOf (readBelow s .entries)
 
--- before a malformed line stand well-formed lines only: some of the card's, or the whole card and readings; at it stands none
+-- before a malformed line stand well-formed lines only: some of the card's, or the whole card and entries; at it stands none
 pub data Stopped (s before rest : List ℕ) : Type 0 where
   in-card : Malformed s before rest → Stopped s before rest
-  in-readings : parse s .line ≡ 0 → before ≡ linesRead s → 0 < length rest → ¬ (readReading rest .number ≡ 0) → Stopped s before rest
+  in-entries : parse s .line ≡ 0 → before ≡ linesRead s → 0 < length rest → ¬ (readEntry rest .number ≡ 0) → Stopped s before rest
 
 pub record MalformedAt (s : List ℕ) (line : ℕ) : Type 0 where
   pub before : List ℕ
@@ -47,22 +47,22 @@ pub record MalformedAt (s : List ℕ) (line : ℕ) : Type 0 where
   pub number : line ≡ lineEnds before + 1
   pub lines : Stopped s before rest
 
--- a book ends in the sheet, and all lines are well formed; or it is the number of a card that clearing refuses; or the number of the card's malformed line, or ends in that of a malformed reading
+-- a book ends in the sheet, and all lines are well formed; or it is the number of a card that clearing refuses; or the number of the card's malformed line, or ends in that of a malformed line below it
 pub data Ending (s : List ℕ) : Type 0 where
-  in-sheet : bookOf s ≡ linesText (entriesBelow s) ++ sheetText (afterAll noSteps (answersOf (entriesBelow s))) → parse s .line ≡ 0 → s ≡ linesRead s → Ending s
+  in-sheet : bookOf s ≡ linesText (answeredBelow s) ++ sheetText (afterAll noSteps (answersOf (answeredBelow s))) → parse s .line ≡ 0 → s ≡ linesRead s → Ending s
   in-code : (number : ℕ) → bookOf s ≡ codeText number → parse s .line ≡ 0 → clearNumber (parse s .card) (freshRows (parse s .card)) ≡ number → ¬ (number ≡ 0) → Ending s
   in-card-line : (line : ℕ) → bookOf s ≡ malformedText line → MalformedAt s line → Ending s
-  in-line : (line : ℕ) → bookOf s ≡ linesText (entriesBelow s) ++ malformedText line → MalformedAt s line → Ending s
+  in-line : (line : ℕ) → bookOf s ≡ linesText (answeredBelow s) ++ malformedText line → MalformedAt s line → Ending s
 
 -- ---- with the card read and cleared
 module _ (s : List ℕ) (h : length s ≤ inputLimit) (e : parse s .line ≡ 0) (c : clearNumber (parse s .card) (freshRows (parse s .card)) ≡ 0) where
   abbrev card : Card
   card = parse s .card
 
-  abbrev read : ReadingsRead
+  abbrev read : EntriesRead
   read = readBelow s
 
-  book-is : bookOf s ≡ readingsText (length (below s)) card (parse s .soil) (clearRows card (freshRows card)) noSteps (card .cells + 2) (below s)
+  book-is : bookOf s ≡ entriesText (length (below s)) card (parse s .soil) (clearRows card (freshRows card)) noSteps (card .cells + 2) (below s)
   book-is = book-read s h e ∙ cleared-more card (parse s .soil) (freshRows card) (below s) c
 
   lines : LinesOf (below s) read
@@ -71,22 +71,22 @@ module _ (s : List ℕ) (h : length s ≤ inputLimit) (e : parse s .line ≡ 0) 
   parts-are : s ≡ linesRead s ++ lines .rest
   parts-are =
       sym (take-append-drop (parse s .next) s)
-      ∙ rw (card-one s e) (ap (λ (l : List ℕ). cardText card (parse s .soil) ++ l) (lines .parts) ∙ sym (append-assoc (cardText card (parse s .soil)) (textsOf (read .readings)) (lines .rest)))
+      ∙ rw (card-one s e) (ap (λ (l : List ℕ). cardText card (parse s .soil) ++ l) (lines .parts) ∙ sym (append-assoc (cardText card (parse s .soil)) (textsOf (read .entries)) (lines .rest)))
 
   all-read : read .wellFormed ≡ true → Ending s
-  unfolding readingsText
+  unfolding entriesText
   all-read w = in-sheet (book-is ∙ rw w) e (parts-are ∙ rw (lines .all w, append-nil (linesRead s)))
 
   some-read : read .wellFormed ≡ false → Ending s
-  unfolding readingsText
+  unfolding entriesText
   some-read w =
-      in-line (card .cells + 2 + length (entriesBelow s)) (book-is ∙ rw w)
+      in-line (card .cells + 2 + length (answeredBelow s)) (book-is ∙ rw w)
       (record {
         before = linesRead s;
         rest = lines .rest;
         parts = parts-are;
-        number = omega (arith, ends-append (cardText card (parse s .soil)) (textsOf (read .readings)), rw (card-one s e) at (card-ends s e), lines .ends, entry-each card (parse s .soil) (clearRows card (freshRows card)) (read .readings));
-        lines = in-readings e refl (lines .stop w .0) (lines .stop w .1);
+        number = omega (arith, ends-append (cardText card (parse s .soil)) (textsOf (read .entries)), rw (card-one s e) at (card-ends s e), lines .ends, answered-each card (parse s .soil) (clearRows card (freshRows card)) (read .entries));
+        lines = in-entries e refl (lines .stop w .0) (lines .stop w .1);
       })
 
 pub ending : (s : List ℕ) → length s ≤ inputLimit → Ending s

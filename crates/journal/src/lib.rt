@@ -7,8 +7,8 @@ ghost use lib.Seq.{sets};
 ghost use Rattle.journal.specs.Book.{clearedText, roomFor, BookGives};
 use cell::Card;
 
+mod entries;
 mod lines;
-mod readings;
 
 // Whether a buffer of `room` bytes suffices for an input of `len` bytes.
 fn has_room(len: usize, room: usize) -> bool
@@ -20,7 +20,7 @@ fn has_room(len: usize, room: usize) -> bool
     len <= (room - 300) / 5
 }
 
-// Clears the site, then writes a line for each reading of `rest` and the sheet.
+// Clears the site, then writes a line for each entry of `rest` and the sheet.
 fn cleared(card: Card, soil: &[i64], rows: &mut [u32], rest: &[u8], out: &mut [u8]) -> usize
     requires { ⌜ (length (now rest) < 2 ^ 62) × (length (clearedText card (now soil) (now rows) (now rest)) ≤ length (now out)) ⌝ }
     ensures { λ r. ⌜ (r ≡ length (clearedText card (now (soil .entry)) (now (rows .entry)) (now (rest .entry))))
@@ -30,7 +30,7 @@ fn cleared(card: Card, soil: &[i64], rows: &mut [u32], rest: &[u8], out: &mut [u
     if number != 0 {
         return lines::put_code(number, out, 0);
     }
-    readings::put_readings(card, soil, rows, rest, card.cells as usize + 2, out)
+    entries::put_entries(card, soil, rows, rest, card.cells as usize + 2, out)
 }
 
 // Writes the book of the input at the start of out, and returns its length; 0 where out has not 5 bytes for each of the input and 300 more.

@@ -3,11 +3,13 @@ ghost use mathlib.Core.Path.{_≡_};
 ghost use Prim.Native.Nat.{_+_, _≤_, _<_, _^_};
 ghost use lib.ListN.{length};
 ghost use lib.Seq.{sets};
+ghost use Rattle.cell.specs.Ranges.{cellOf};
 ghost use Rattle.cell.specs.Refusals.{amountsOf};
 ghost use Rattle.site.specs.SheetLaws.{AmountsWithin, SheetIn};
 ghost use Rattle.text.specs.Printed.{answerText, sheetText};
 ghost use Rattle.journal.specs.Book.{codeText, malformedText};
 use cell::Answer;
+use cell::Entry;
 use form::line::put_form;
 use site::Sheet;
 
@@ -33,12 +35,12 @@ pub fn put_malformed(line: usize, out: &mut [u8], at: usize) -> usize
     put_form(&MALFORMED, &v, 0, out, at)
 }
 
-// The line of an answer.
-pub fn put_answer(cell: u32, answer: Answer, out: &mut [u8], at: usize) -> usize
-    requires { ⌜ AmountsWithin (amountsOf answer) × (at + length (answerText cell answer) ≤ length (now out)) ⌝ }
-    ensures { λ r. ⌜ (r ≡ at + length (answerText cell answer)) × (now (out .exit) ≡ sets (now (out .entry)) at (answerText cell answer)) ⌝ }
+// The line of an entry's answer.
+pub fn put_answer(e: Entry, answer: Answer, out: &mut [u8], at: usize) -> usize
+    requires { ⌜ AmountsWithin (amountsOf answer) × (at + length (answerText (cellOf e) answer) ≤ length (now out)) ⌝ }
+    ensures { λ r. ⌜ (r ≡ at + length (answerText (cellOf e) answer)) × (now (out .exit) ≡ sets (now (out .entry)) at (answerText (cellOf e) answer)) ⌝ }
 {
-    let w = text::print::answer(cell, answer, &mut out[at..]);
+    let w = text::print::answer(cell::cell_of(e), answer, &mut out[at..]);
     at + w.len
 }
 

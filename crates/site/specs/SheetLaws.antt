@@ -11,7 +11,8 @@ use Rattle.cell.specs.declared.Amounts.{Amounts}
 use Rattle.cell.specs.declared.Answer.{Answer}
 use Rattle.cell.specs.declared.Answer.the-variants.{Accepted, Refused}
 use Rattle.cell.specs.declared.Card.{Card}
-use Rattle.cell.specs.declared.Reading.{Reading}
+use Rattle.cell.specs.declared.Entry.{Entry}
+use Rattle.cell.specs.Ranges.{cellOf}
 use Rattle.cell.specs.declared.Refusal.{Refusal}
 use Rattle.cell.specs.Bounds.{abs-add}
 use Rattle.cell.specs.Conj.{told}
@@ -301,11 +302,11 @@ step-within a h =
     }
 
 -- the amounts of whatever the site answers are within the limit
-pub site-within : (card : Card) (soil : List ℤ) (rows : List ℕ) (r : Reading) → AmountsWithin (amountsOf (siteAnswer card soil rows r))
-site-within card soil rows r = go (siteAnswer card soil rows r) refl
+pub site-within : (card : Card) (soil : List ℤ) (rows : List ℕ) (i : Entry) → AmountsWithin (amountsOf (siteAnswer card soil rows i))
+site-within card soil rows i = go (siteAnswer card soil rows i) refl
   where
-    go : (x : Answer) → siteAnswer card soil rows r ≡ x → AmountsWithin (amountsOf x)
-    go (Accepted a) e = step-within a (amounts-in card (partAt soilWidth (r .cell) soil) (partAt rowWidth (r .cell) rows) r a (row-answer card soil rows r a e))
+    go : (x : Answer) → siteAnswer card soil rows i ≡ x → AmountsWithin (amountsOf x)
+    go (Accepted a) e = step-within a (amounts-in card (partAt soilWidth (cellOf i) soil) (partAt rowWidth (cellOf i) rows) i a (row-answer card soil rows i a e))
     go (Refused why) e =
         record {
           inflow = omega arith;

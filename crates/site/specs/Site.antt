@@ -6,15 +6,14 @@ use mathlib.Core.List.{List, [], _∷_}
 use lib.Dec.{ltb, eqb}
 use lib.IntN.{ℤ}
 use lib.ListN.{length, replicate}
-use Rattle.head.specs.Class.{classOf}
 use Rattle.cell.specs.declared.Answer.{Answer}
 use Rattle.cell.specs.declared.Answer.the-variants.{Accepted, Refused}
 use Rattle.cell.specs.declared.Card.{Card}
-use Rattle.cell.specs.declared.Reading.{Reading}
+use Rattle.cell.specs.declared.Entry.{Entry}
 use Rattle.cell.specs.declared.Refusal.{Refusal}
 use Rattle.cell.specs.declared.Refusal.the-variants.{BadCard, BadLengths, BadCell}
-use Rattle.cell.specs.Ranges.{cardOk, soilOk, rowOk, lifeOf, nextOf, fieldsOk}
-use Rattle.cell.specs.Refusals.{refusalNumber, firstFailing, numberOf, nothing, amountsOf, isOld, isGap, isUnusable, isInactive}
+use Rattle.cell.specs.Ranges.{cardOk, soilOk, rowOk, lifeOf, nextOf, noticeOf, cellOf}
+use Rattle.cell.specs.Refusals.{refusalNumber, firstFailing, numberOf, nothing, amountsOf, isOld, isGap, fieldChecks}
 use Rattle.cell.specs.Step.{answerOf, newRow}
 use Rattle.site.specs.Rows.{partAt, putAt}
 
@@ -33,25 +32,22 @@ unfoldable pub rowsFit : Card → List ℕ → Bool
 rowsFit card rows = eqb (length rows) (rowWidth * card .cells)
 
 -- 3. the cell number is below cells
-unfoldable pub cellFits : Card → Reading → Bool
-cellFits card r = ltb (r .cell) (card .cells)
+unfoldable pub cellFits : Card → Entry → Bool
+cellFits card e = ltb (cellOf e) (card .cells)
 
--- the checks of a step, 1 to 10: the number of each, and whether it is passed
-unfoldable pub checksOf : Card → List ℤ → List ℕ → Reading → List (ℕ × Bool)
-checksOf card soil rows r =
-    let own : List ℤ = partAt soilWidth (r .cell) soil in
-    let row : List ℕ = partAt rowWidth (r .cell) rows in
+-- the checks of a step, 1 to 10, of a void [3] 1 to 8: the number of each, and whether it is passed
+unfoldable pub checksOf : Card → List ℤ → List ℕ → Entry → List (ℕ × Bool)
+checksOf card soil rows e =
+    let own : List ℤ = partAt soilWidth (cellOf e) soil in
+    let row : List ℕ = partAt rowWidth (cellOf e) rows in
     (1, cardOk card)
     ∷ (2, soilFits card soil && rowsFit card rows)
-    ∷ (3, cellFits card r)
+    ∷ (3, cellFits card e)
     ∷ (4, soilOk own)
     ∷ (5, rowOk (card .delays) row)
-    ∷ (6, not (isOld (lifeOf row) (nextOf row) r))
-    ∷ (7, not (isGap (lifeOf row) (nextOf row) r))
-    ∷ (8, fieldsOk r)
-    ∷ (9, not (isUnusable (classOf (r .head))))
-    ∷ (10, not (isInactive (classOf (r .head))))
-    ∷ []
+    ∷ (6, not (isOld (lifeOf row) (nextOf row) (noticeOf e)))
+    ∷ (7, not (isGap (lifeOf row) (nextOf row) (noticeOf e)))
+    ∷ fieldChecks e
 
 -- a check: refused with `why` where it fails, else what comes next
 unfoldable pub refuse : Bool → Refusal → Answer → Answer
@@ -59,12 +55,12 @@ refuse true why next = next
 refuse false why next = Refused why
 
 -- checks 1, 2 and 3, then the step of the named cell's row with its soil numbers
-unfoldable pub siteAnswer : Card → List ℤ → List ℕ → Reading → Answer
-siteAnswer card soil rows r =
+unfoldable pub siteAnswer : Card → List ℤ → List ℕ → Entry → Answer
+siteAnswer card soil rows e =
     refuse (cardOk card) BadCard
     (refuse (soilFits card soil && rowsFit card rows) BadLengths
-    (refuse (cellFits card r) BadCell
-    (answerOf card (partAt soilWidth (r .cell) soil) (partAt rowWidth (r .cell) rows) r)))
+    (refuse (cellFits card e) BadCell
+    (answerOf card (partAt soilWidth (cellOf e) soil) (partAt rowWidth (cellOf e) rows) e)))
 
 -- a slice by an answer: as it came where it was refused
 unfoldable pub rowsBy : Answer → List ℕ → List ℕ → List ℕ
@@ -72,19 +68,19 @@ rowsBy (Accepted a) after rows = after
 rowsBy (Refused why) after rows = rows
 
 -- the rows after a step: accepted, the named cell's row is the new one and no other number changes
-unfoldable pub siteRows : Card → List ℤ → List ℕ → Reading → List ℕ
-siteRows card soil rows r =
-    rowsBy (siteAnswer card soil rows r)
-    (putAt rowWidth (r .cell) (newRow card (partAt soilWidth (r .cell) soil) (partAt rowWidth (r .cell) rows) r) rows)
+unfoldable pub siteRows : Card → List ℤ → List ℕ → Entry → List ℕ
+siteRows card soil rows e =
+    rowsBy (siteAnswer card soil rows e)
+    (putAt rowWidth (cellOf e) (newRow card (partAt soilWidth (cellOf e) soil) (partAt rowWidth (cellOf e) rows) e) rows)
     rows
 
 -- what a step of the site gives, for every input: the number of the first check that fails and ten zero amounts; or 0 and the named row's amounts
-pub record SiteGives (card : Card) (soil : List ℤ) (rows : List ℕ) (r : Reading) (answer : Answer) (after : List ℕ) : Type 0 where
-  pub answer-is : answer ≡ siteAnswer card soil rows r
-  pub number-is : numberOf answer ≡ firstFailing (checksOf card soil rows r)
+pub record SiteGives (card : Card) (soil : List ℤ) (rows : List ℕ) (e : Entry) (answer : Answer) (after : List ℕ) : Type 0 where
+  pub answer-is : answer ≡ siteAnswer card soil rows e
+  pub number-is : numberOf answer ≡ firstFailing (checksOf card soil rows e)
   pub amounts-are : amountsOf answer
-      ≡ cond (eqb (firstFailing (checksOf card soil rows r)) 0) (amountsOf (answerOf card (partAt soilWidth (r .cell) soil) (partAt rowWidth (r .cell) rows) r)) nothing
-  pub rows-are : after ≡ siteRows card soil rows r
+      ≡ cond (eqb (firstFailing (checksOf card soil rows e)) 0) (amountsOf (answerOf card (partAt soilWidth (cellOf e) soil) (partAt rowWidth (cellOf e) rows) e)) nothing
+  pub rows-are : after ≡ siteRows card soil rows e
 
 -- ---- clearing: knows 1 and the row part of 2 only
 unfoldable pub clearNumber : Card → List ℕ → ℕ

@@ -13,87 +13,89 @@ use Rattle.cell.specs.declared.Amounts.{Amounts}
 use Rattle.cell.specs.declared.Answer.{Answer}
 use Rattle.cell.specs.declared.Answer.the-variants.{Accepted, Refused}
 use Rattle.cell.specs.declared.Card.{Card}
+use Rattle.cell.specs.declared.Entry.{Entry}
+use Rattle.cell.specs.declared.Notice.{Notice}
 use Rattle.cell.specs.declared.Reading.{Reading}
 use Rattle.cell.specs.declared.Refusal.{Refusal}
 use Rattle.cell.specs.declared.Refusal.the-variants.{BadCard, BadLengths, BadCell}
-use Rattle.cell.specs.Ranges.{cardOk, lifeOf, nextOf}
+use Rattle.cell.specs.Ranges.{cardOk, noticeOk, noticed, noticeOf, cellOf}
 use Rattle.cell.specs.Step.{answerOf, newRow}
-use Rattle.cell.specs.Refusals.{refusalNumber, firstFailing, numberOf, nothing, amountsOf}
-use Rattle.cell.specs.CheckLaws.{row-number, same-order, refusal-in}
+use Rattle.cell.specs.Refusals.{refusalNumber, firstFailing, fieldChecks, numberOf, nothing, amountsOf}
+use Rattle.cell.specs.CheckLaws.{row-number, refusal-in}
 use Rattle.cell.specs.AnswerLaws.{stays, bad-card, length-after}
 use Rattle.site.specs.Rows.{partAt, putAt}
 use Rattle.site.specs.RowsLaws.{put-back, put-same, put-other, put-length, put-outside, room, part-zeros}
 use Rattle.site.specs.Site.{soilWidth, rowWidth, soilFits, rowsFit, cellFits, checksOf, refuse, siteAnswer, rowsBy, siteRows, SiteGives, clearNumber, clearRows, ClearGives}
 
-module _ (card : Card) (soil : List ℤ) (rows : List ℕ) (r : Reading) where
+module _ (card : Card) (soil : List ℤ) (rows : List ℕ) (i : Entry) where
   abbrev soilPart : List ℤ
-  soilPart = partAt soilWidth (r .cell) soil
+  soilPart = partAt soilWidth (cellOf i) soil
 
   abbrev rowPart : List ℕ
-  rowPart = partAt rowWidth (r .cell) rows
+  rowPart = partAt rowWidth (cellOf i) rows
 
   -- ---- by the checks 2 and 3, each after check 1
-  by-checks : {a b c : Bool} → cardOk card ≡ a → (soilFits card soil && rowsFit card rows) ≡ b → cellFits card r ≡ c
-      → refuse a BadCard (refuse b BadLengths (refuse c BadCell (answerOf card soilPart rowPart r))) ≡ siteAnswer card soil rows r
+  by-checks : {a b c : Bool} → cardOk card ≡ a → (soilFits card soil && rowsFit card rows) ≡ b → cellFits card i ≡ c
+      → refuse a BadCard (refuse b BadLengths (refuse c BadCell (answerOf card soilPart rowPart i))) ≡ siteAnswer card soil rows i
   unfolding siteAnswer
   by-checks p q s = rw (p, q, s)
 
-  pub lengths-bad : (soilFits card soil && rowsFit card rows) ≡ false → siteAnswer card soil rows r ≡ Refused (cond (cardOk card) BadLengths BadCard)
+  pub lengths-bad : (soilFits card soil && rowsFit card rows) ≡ false → siteAnswer card soil rows i ≡ Refused (cond (cardOk card) BadLengths BadCard)
   unfolding refuse
   lengths-bad e = go (cardOk card) refl
     where
-      go : (a : Bool) → cardOk card ≡ a → siteAnswer card soil rows r ≡ Refused (cond a BadLengths BadCard)
+      go : (a : Bool) → cardOk card ≡ a → siteAnswer card soil rows i ≡ Refused (cond a BadLengths BadCard)
       go true p = sym (by-checks p e refl)
       go false p = sym (by-checks p refl refl)
 
-  pub cell-bad : (soilFits card soil && rowsFit card rows) ≡ true → cellFits card r ≡ false → siteAnswer card soil rows r ≡ Refused (cond (cardOk card) BadCell BadCard)
+  pub cell-bad : (soilFits card soil && rowsFit card rows) ≡ true → cellFits card i ≡ false → siteAnswer card soil rows i ≡ Refused (cond (cardOk card) BadCell BadCard)
   unfolding refuse
   cell-bad e f = go (cardOk card) refl
     where
-      go : (a : Bool) → cardOk card ≡ a → siteAnswer card soil rows r ≡ Refused (cond a BadCell BadCard)
+      go : (a : Bool) → cardOk card ≡ a → siteAnswer card soil rows i ≡ Refused (cond a BadCell BadCard)
       go true p = sym (by-checks p e f)
       go false p = sym (by-checks p refl refl)
 
   -- where neither fails, the answer is the named row's, whose own first check is 1
-  pub reached : (soilFits card soil && rowsFit card rows) ≡ true → cellFits card r ≡ true → siteAnswer card soil rows r ≡ answerOf card soilPart rowPart r
+  pub reached : (soilFits card soil && rowsFit card rows) ≡ true → cellFits card i ≡ true → siteAnswer card soil rows i ≡ answerOf card soilPart rowPart i
   unfolding refuse
   reached e f = go (cardOk card) refl
     where
-      go : (a : Bool) → cardOk card ≡ a → siteAnswer card soil rows r ≡ answerOf card soilPart rowPart r
+      go : (a : Bool) → cardOk card ≡ a → siteAnswer card soil rows i ≡ answerOf card soilPart rowPart i
       go true p = sym (by-checks p e f)
-      go false p = sym (by-checks p refl refl) ∙ sym (bad-card card soilPart rowPart r p)
+      go false p = sym (by-checks p refl refl) ∙ sym (bad-card card soilPart rowPart i p)
 
   -- ---- the number is that of the first check in the table that fails
-  pub first-failing : numberOf (siteAnswer card soil rows r) ≡ firstFailing (checksOf card soil rows r)
+  pub first-failing : numberOf (siteAnswer card soil rows i) ≡ firstFailing (checksOf card soil rows i)
   unfolding checksOf refuse
-  first-failing = go (cardOk card) refl (soilFits card soil && rowsFit card rows) refl (cellFits card r) refl
+  first-failing = go (cardOk card) refl (soilFits card soil && rowsFit card rows) refl (cellFits card i) refl
     where
-      go : (a : Bool) → cardOk card ≡ a → (b : Bool) → (soilFits card soil && rowsFit card rows) ≡ b → (c : Bool) → cellFits card r ≡ c → numberOf (siteAnswer card soil rows r) ≡ firstFailing (checksOf card soil rows r)
+      go : (a : Bool) → cardOk card ≡ a → (b : Bool) → (soilFits card soil && rowsFit card rows) ≡ b → (c : Bool) → cellFits card i ≡ c → numberOf (siteAnswer card soil rows i) ≡ firstFailing (checksOf card soil rows i)
       go false p b q c s = rw (← by-checks p q s, p)
       go true p false q c s = rw (← by-checks p q s, p, q)
       go true p true q false s = rw (← by-checks p q s, p, q, s)
-      go true p true q true s = rw (← by-checks p q s, p, q, s) (rw p at (row-number card soilPart rowPart r))
+      go true p true q true s = rw (← by-checks p q s, p, q, s) (rw p at (row-number card soilPart rowPart i))
 
   -- ---- the rows: refused, exactly as they came
-  pub rows-stay : (why : Refusal) → siteAnswer card soil rows r ≡ Refused why → siteRows card soil rows r ≡ rows
+  pub rows-stay : (why : Refusal) → siteAnswer card soil rows i ≡ Refused why → siteRows card soil rows i ≡ rows
   unfolding siteRows rowsBy
   rows-stay why e = rw e
 
-  pub rows-reached : (soilFits card soil && rowsFit card rows) ≡ true → cellFits card r ≡ true
-      → siteRows card soil rows r ≡ putAt rowWidth (r .cell) (newRow card soilPart rowPart r) rows
+  pub rows-reached : (soilFits card soil && rowsFit card rows) ≡ true → cellFits card i ≡ true
+      → siteRows card soil rows i ≡ putAt rowWidth (cellOf i) (newRow card soilPart rowPart i) rows
   unfolding siteRows rowsBy
-  rows-reached e f = go (answerOf card soilPart rowPart r) refl
+  rows-reached e f = go (answerOf card soilPart rowPart i) refl
     where
       after : List ℕ
-      after = putAt rowWidth (r .cell) (newRow card soilPart rowPart r) rows
+      after = putAt rowWidth (cellOf i) (newRow card soilPart rowPart i) rows
 
-      go : (b : Answer) → answerOf card soilPart rowPart r ≡ b → rowsBy (siteAnswer card soil rows r) after rows ≡ after
+      go : (b : Answer) → answerOf card soilPart rowPart i ≡ b → rowsBy (siteAnswer card soil rows i) after rows ≡ after
       go (Accepted a) g = rw (reached e f, g)
-      go (Refused why) g = rw (reached e f, g) (sym (rw (stays card soilPart rowPart r why g) (put-back rowWidth (r .cell) rows)))
+      go (Refused why) g = rw (reached e f, g) (sym (rw (stays card soilPart rowPart i why g) (put-back rowWidth (cellOf i) rows)))
 
   -- ---- an accepted step: what was checked, and what it left
-  module _ (a : Amounts) (e : siteAnswer card soil rows r ≡ Accepted a) where
-    no-refusal : (why : Refusal) → siteAnswer card soil rows r ≡ Refused why → ⊥
+  module _ (a : Amounts) (e : siteAnswer card soil rows i ≡ Accepted a) where
+    no-refusal : (why : Refusal) → siteAnswer card soil rows i ≡ Refused why → ⊥
     no-refusal why f = let z : _≡_ {A = ℕ} 0 1 = cc in omega arith
 
     lengths-were : (soilFits card soil && rowsFit card rows) ≡ true
@@ -103,60 +105,60 @@ module _ (card : Card) (soil : List ℤ) (rows : List ℕ) (r : Reading) where
         go true q = refl
         go false q = absurd (no-refusal _ (lengths-bad q))
 
-    cell-was : cellFits card r ≡ true
-    cell-was = go (cellFits card r) refl
+    cell-was : cellFits card i ≡ true
+    cell-was = go (cellFits card i) refl
       where
-        go : (b : Bool) → cellFits card r ≡ b → b ≡ true
+        go : (b : Bool) → cellFits card i ≡ b → b ≡ true
         go true q = refl
         go false q = absurd (no-refusal _ (cell-bad lengths-were q))
 
-    pub row-answer : answerOf card soilPart rowPart r ≡ Accepted a
+    pub row-answer : answerOf card soilPart rowPart i ≡ Accepted a
     row-answer = sym (reached lengths-were cell-was) ∙ e
 
-    pub cell-below : r .cell < card .cells
+    pub cell-below : cellOf i < card .cells
     unfolding cellFits
-    cell-below = ltb-true (r .cell) (card .cells) cell-was
+    cell-below = ltb-true (cellOf i) (card .cells) cell-was
 
     pub rows-long : length rows ≡ rowWidth * card .cells
     unfolding rowsFit
     rows-long = eqb-true (length rows) (rowWidth * card .cells) (and-eq-true-iff (soilFits card soil) (rowsFit card rows) .0 lengths-were .1)
 
-    has-room : rowWidth * r .cell + rowWidth ≤ length rows
-    has-room = room rowWidth (r .cell) (card .cells) rows rows-long cell-below
+    has-room : rowWidth * cellOf i + rowWidth ≤ length rows
+    has-room = room rowWidth (cellOf i) (card .cells) rows rows-long cell-below
 
-    new-length : length (newRow card soilPart rowPart r) ≡ rowWidth
-    new-length = length-after card soilPart rowPart r a row-answer
+    new-length : length (newRow card soilPart rowPart i) ≡ rowWidth
+    new-length = length-after card soilPart rowPart i a row-answer
 
-    rows-are : siteRows card soil rows r ≡ putAt rowWidth (r .cell) (newRow card soilPart rowPart r) rows
+    rows-are : siteRows card soil rows i ≡ putAt rowWidth (cellOf i) (newRow card soilPart rowPart i) rows
     rows-are = rows-reached lengths-were cell-was
 
     -- the named cell's row is the new one, every other cell's is as it was, and no other number of the slice differs
-    pub own-row : partAt rowWidth (r .cell) (siteRows card soil rows r) ≡ newRow card soilPart rowPart r
-    own-row = rw rows-are (put-same rowWidth (r .cell) (newRow card soilPart rowPart r) rows new-length has-room)
+    pub own-row : partAt rowWidth (cellOf i) (siteRows card soil rows i) ≡ newRow card soilPart rowPart i
+    own-row = rw rows-are (put-same rowWidth (cellOf i) (newRow card soilPart rowPart i) rows new-length has-room)
 
-    pub other-row : (p : ℕ) → ¬ (r .cell ≡ p) → partAt rowWidth p (siteRows card soil rows r) ≡ partAt rowWidth p rows
-    other-row p ne = rw rows-are (put-other rowWidth (r .cell) (newRow card soilPart rowPart r) rows new-length has-room p ne)
+    pub other-row : (p : ℕ) → ¬ (cellOf i ≡ p) → partAt rowWidth p (siteRows card soil rows i) ≡ partAt rowWidth p rows
+    other-row p ne = rw rows-are (put-other rowWidth (cellOf i) (newRow card soilPart rowPart i) rows new-length has-room p ne)
 
-    pub outside : (j : ℕ) → ¬ ((rowWidth * r .cell ≤ j) × (j < rowWidth * r .cell + rowWidth)) → getD (siteRows card soil rows r) j 0 ≡ getD rows j 0
-    outside j n = rw rows-are (put-outside rowWidth (r .cell) (newRow card soilPart rowPart r) rows new-length has-room j n)
+    pub outside : (j : ℕ) → ¬ ((rowWidth * cellOf i ≤ j) × (j < rowWidth * cellOf i + rowWidth)) → getD (siteRows card soil rows i) j 0 ≡ getD rows j 0
+    outside j n = rw rows-are (put-outside rowWidth (cellOf i) (newRow card soilPart rowPart i) rows new-length has-room j n)
 
-    pub rows-length : length (siteRows card soil rows r) ≡ length rows
-    rows-length = rw rows-are (put-length rowWidth (r .cell) (newRow card soilPart rowPart r) rows new-length has-room)
+    pub rows-length : length (siteRows card soil rows i) ≡ length rows
+    rows-length = rw rows-are (put-length rowWidth (cellOf i) (newRow card soilPart rowPart i) rows new-length has-room)
 
 -- ---- what an answer and the rows promise, where they are those of the definitions
-module _ (card : Card) (soil : List ℤ) (rows : List ℕ) (r : Reading) where
-  amounts-by : (x : Answer) → siteAnswer card soil rows r ≡ x
-      → amountsOf x ≡ cond (eqb (numberOf x) 0) (amountsOf (answerOf card (partAt soilWidth (r .cell) soil) (partAt rowWidth (r .cell) rows) r)) nothing
-  amounts-by (Accepted a) e = rw (row-answer card soil rows r a e)
+module _ (card : Card) (soil : List ℤ) (rows : List ℕ) (i : Entry) where
+  amounts-by : (x : Answer) → siteAnswer card soil rows i ≡ x
+      → amountsOf x ≡ cond (eqb (numberOf x) 0) (amountsOf (answerOf card (partAt soilWidth (cellOf i) soil) (partAt rowWidth (cellOf i) rows) i)) nothing
+  amounts-by (Accepted a) e = rw (row-answer card soil rows i a e)
   amounts-by (Refused why) e = rw (ne-eqb (refusalNumber why) 0 (λ z. omega (arith, refusal-in why .0)))
 
-  pub gives : {answer : Answer} {after : List ℕ} → answer ≡ siteAnswer card soil rows r → after ≡ siteRows card soil rows r → SiteGives card soil rows r answer after
+  pub gives : {answer : Answer} {after : List ℕ} → answer ≡ siteAnswer card soil rows i → after ≡ siteRows card soil rows i → SiteGives card soil rows i answer after
   gives p q =
-      let n = first-failing card soil rows r in
+      let n = first-failing card soil rows i in
       record {
         answer-is = p;
         number-is = ap numberOf p ∙ n;
-        amounts-are = ap amountsOf p ∙ (rw n at (amounts-by (siteAnswer card soil rows r) refl));
+        amounts-are = ap amountsOf p ∙ (rw n at (amounts-by (siteAnswer card soil rows i) refl));
         rows-are = q;
       }
 
@@ -175,10 +177,10 @@ module _ (card : Card) (rows : List ℕ) where
   clear-done p q = record { number-is = rw (p, q); rows-are = rw (p, q) }
 
 -- ---- a step that is refused gives the rows as they came
-pub refused-gives : (card : Card) (soil : List ℤ) (rows : List ℕ) (r : Reading) (why : Refusal) → siteAnswer card soil rows r ≡ Refused why → SiteGives card soil rows r (Refused why) rows
-refused-gives card soil rows r why e = gives card soil rows r (sym e) (sym (rows-stay card soil rows r why e))
+pub refused-gives : (card : Card) (soil : List ℤ) (rows : List ℕ) (i : Entry) (why : Refusal) → siteAnswer card soil rows i ≡ Refused why → SiteGives card soil rows i (Refused why) rows
+refused-gives card soil rows i why e = gives card soil rows i (sym e) (sym (rows-stay card soil rows i why e))
 
--- ---- a reading refused with 8, 9 or 10 does not use up its count
+-- ---- an entry refused with 8, 9 or 10 does not use up its count
 -- the checks of a list, each with a number below n: they are passed where the first failing check of them and others has the number n or a higher one
 abbrev Below : ℕ → List (ℕ × Bool) → Type 0
 Below n [] = Unit {0}
@@ -192,62 +194,97 @@ were-passed n (check ∷ more) others b h = go (check .1) refl (were-passed n mo
     go true e ih = rw e (ih (rw e at h))
     go false e ih = absurd (let k : n ≤ check .0 = rw e at h in omega (arith, b .0))
 
--- checks 1 to 7 look at a reading's cell, life and count only
-first-seven : (card : Card) (soil : List ℤ) (rows : List ℕ) (r r' : Reading) → r .cell ≡ r' .cell → r .life ≡ r' .life → r .count ≡ r' .count
-    → take 7 (checksOf card soil rows r') ≡ take 7 (checksOf card soil rows r)
-unfolding checksOf cellFits
-first-seven card soil rows r r' c l n =
-    let row : List ℕ = partAt rowWidth (r' .cell) rows in
-    let o = same-order (lifeOf row) (nextOf row) r r' l n in
-    rw (← (o .0), ← (o .1), ← c)
+-- checks and others that are all passed
+both-pass : (checks others : List (ℕ × Bool)) → firstFailing checks ≡ 0 → firstFailing others ≡ 0 → firstFailing (checks ++ others) ≡ 0
+both-pass [] others e f = f
+both-pass (check ∷ more) others e f = go (check .1) refl (both-pass more others)
+  where
+    go : (t : Bool) → check .1 ≡ t → (firstFailing more ≡ 0 → firstFailing others ≡ 0 → firstFailing (more ++ others) ≡ 0) → cond (check .1) (firstFailing (more ++ others)) (check .0) ≡ 0
+    go true p ih = rw p (ih (rw p at e) f)
+    go false p ih = rw p (rw p at e)
 
-seven-passed : (card : Card) (soil : List ℤ) (rows : List ℕ) (r : Reading) → 8 ≤ firstFailing (checksOf card soil rows r) → firstFailing (take 7 (checksOf card soil rows r)) ≡ 0
+if-none-fails : (x : Answer) → numberOf x ≡ 0 → (a : Amounts) × (x ≡ Accepted a)
+if-none-fails (Accepted a) e = (a, refl)
+if-none-fails (Refused why) e = absurd (omega (arith, refusal-in why .0))
+
+-- where each number is below n, so is that of the first failing check
+first-below : (n : ℕ) (checks : List (ℕ × Bool)) → 0 < n → Below n checks → firstFailing checks < n
+first-below n [] h b = h
+first-below n (check ∷ more) h b = go (check .1) (first-below n more h (b .1))
+  where
+    go : (t : Bool) → firstFailing more < n → cond t (firstFailing more) (check .0) < n
+    go true ih = ih
+    go false ih = b .0
+
+-- checks 1 to 7 look at an entry's cell, life and count only
+first-seven : (card : Card) (soil : List ℤ) (rows : List ℕ) (i i' : Entry) → noticeOf i ≡ noticeOf i' → take 7 (checksOf card soil rows i') ≡ take 7 (checksOf card soil rows i)
+unfolding checksOf cellFits
+first-seven card soil rows i i' e = let c : cellOf i ≡ cellOf i' = ap (λ (n : Notice). n .cell) e in rw (e, c)
+
+seven-passed : (card : Card) (soil : List ℤ) (rows : List ℕ) (i : Entry) → 8 ≤ firstFailing (checksOf card soil rows i) → firstFailing (take 7 (checksOf card soil rows i)) ≡ 0
 unfolding checksOf
-seven-passed card soil rows r h =
-    were-passed 8 (take 7 (checksOf card soil rows r)) (drop 7 (checksOf card soil rows r))
+seven-passed card soil rows i h =
+    were-passed 8 (take 7 (checksOf card soil rows i)) (drop 7 (checksOf card soil rows i))
     (omega arith, (omega arith, (omega arith, (omega arith, (omega arith, (omega arith, (omega arith, tt))))))) h
 
--- the rows stay, and a corrected reading of the same plot, life and count meets the same checks 1 to 7, which are passed
-pub count-open : (card : Card) (soil : List ℤ) (rows : List ℕ) (r r' : Reading) {answer : Answer} {after : List ℕ} → SiteGives card soil rows r answer after → 8 ≤ numberOf answer
-    → r .cell ≡ r' .cell → r .life ≡ r' .life → r .count ≡ r' .count
-    → (after ≡ rows) × (take 7 (checksOf card soil after r') ≡ take 7 (checksOf card soil rows r)) × (firstFailing (take 7 (checksOf card soil after r')) ≡ 0)
-count-open card soil rows r r' {answer} {after} g h c l n = (stay, same, ap firstFailing same ∙ were)
+-- the rows stay, and a corrected entry of the same plot, life and count meets the same checks 1 to 7, which are passed
+pub count-open : (card : Card) (soil : List ℤ) (rows : List ℕ) (i i' : Entry) {answer : Answer} {after : List ℕ} → SiteGives card soil rows i answer after → 8 ≤ numberOf answer
+    → noticeOf i ≡ noticeOf i'
+    → (after ≡ rows) × (take 7 (checksOf card soil after i') ≡ take 7 (checksOf card soil rows i)) × (firstFailing (take 7 (checksOf card soil after i')) ≡ 0)
+count-open card soil rows i i' {answer} {after} g h n = (stay, same, ap firstFailing same ∙ were)
   where
-    by : (x : Answer) → siteAnswer card soil rows r ≡ x → 8 ≤ numberOf x → siteRows card soil rows r ≡ rows
+    by : (x : Answer) → siteAnswer card soil rows i ≡ x → 8 ≤ numberOf x → siteRows card soil rows i ≡ rows
     by (Accepted a) e k = absurd (omega arith)
-    by (Refused why) e k = rows-stay card soil rows r why e
+    by (Refused why) e k = rows-stay card soil rows i why e
 
     stay : after ≡ rows
-    stay = g .rows-are ∙ by (siteAnswer card soil rows r) refl (rw (g .answer-is) at h)
+    stay = g .rows-are ∙ by (siteAnswer card soil rows i) refl (rw (g .answer-is) at h)
 
-    same : take 7 (checksOf card soil after r') ≡ take 7 (checksOf card soil rows r)
-    same = rw stay (first-seven card soil rows r r' c l n)
+    same : take 7 (checksOf card soil after i') ≡ take 7 (checksOf card soil rows i)
+    same = rw stay (first-seven card soil rows i i' n)
 
-    were : firstFailing (take 7 (checksOf card soil rows r)) ≡ 0
-    were = seven-passed card soil rows r (rw (g .number-is) at h)
+    were : firstFailing (take 7 (checksOf card soil rows i)) ≡ 0
+    were = seven-passed card soil rows i (rw (g .number-is) at h)
 
--- ---- the answer and the new row depend on nothing but the card, the two lengths, the named cell's soil numbers and row, and the reading
-module _ (card : Card) (soil soil' : List ℤ) (rows rows' : List ℕ) (r : Reading)
+-- [3] a void is never refused with a number above 8: 9 and 10 do not concern it
+pub void-number : (card : Card) (soil : List ℤ) (rows : List ℕ) (n : Notice) → numberOf (siteAnswer card soil rows (Entry.Void n)) ≤ 8
+unfolding checksOf
+void-number card soil rows n =
+    let i = Entry.Void n in
+    let b = first-below 9 (checksOf card soil rows i) (omega arith) (omega arith, (omega arith, (omega arith, (omega arith, (omega arith, (omega arith, (omega arith, (omega arith, tt)))))))) in
+    rw (first-failing card soil rows i) (omega (arith, b))
+
+-- [3] so a reading that was refused with 8, 9 or 10, its life and count in range, can be mended: a void of its cell, life and count is accepted
+pub void-mends : (card : Card) (soil : List ℤ) (rows : List ℕ) (r : Reading) {answer : Answer} {after : List ℕ} → SiteGives card soil rows (Entry.Reading r) answer after → 8 ≤ numberOf answer
+    → noticeOk (noticed r) ≡ true → (a : Amounts) × (siteAnswer card soil after (Entry.Void (noticed r)) ≡ Accepted a)
+unfolding checksOf
+void-mends card soil rows r {answer} {after} g h k =
+    let i = Entry.Void (noticed r) in
+    if-none-fails (siteAnswer card soil after i)
+    (first-failing card soil after i ∙ both-pass (take 7 (checksOf card soil after i)) (fieldChecks i) (count-open card soil rows (Entry.Reading r) i g h refl .2) (rw k))
+
+-- ---- the answer and the new row depend on nothing but the card, the two lengths, the named cell's soil numbers and row, and the entry
+module _ (card : Card) (soil soil' : List ℤ) (rows rows' : List ℕ) (i : Entry)
     (soil-long : length soil ≡ length soil') (rows-long : length rows ≡ length rows')
-    (same-soil : partAt soilWidth (r .cell) soil ≡ partAt soilWidth (r .cell) soil')
-    (same-row : partAt rowWidth (r .cell) rows ≡ partAt rowWidth (r .cell) rows') where
-  pub same-answer : siteAnswer card soil rows r ≡ siteAnswer card soil' rows' r
+    (same-soil : partAt soilWidth (cellOf i) soil ≡ partAt soilWidth (cellOf i) soil')
+    (same-row : partAt rowWidth (cellOf i) rows ≡ partAt rowWidth (cellOf i) rows') where
+  pub same-answer : siteAnswer card soil rows i ≡ siteAnswer card soil' rows' i
   unfolding siteAnswer soilFits rowsFit
   same-answer = rw (soil-long, rows-long, same-soil, same-row)
 
-  pub same-new-row : partAt rowWidth (r .cell) (siteRows card soil rows r) ≡ partAt rowWidth (r .cell) (siteRows card soil' rows' r)
-  same-new-row = go (siteAnswer card soil rows r) refl
+  pub same-new-row : partAt rowWidth (cellOf i) (siteRows card soil rows i) ≡ partAt rowWidth (cellOf i) (siteRows card soil' rows' i)
+  same-new-row = go (siteAnswer card soil rows i) refl
     where
-      go : (b : Answer) → siteAnswer card soil rows r ≡ b → partAt rowWidth (r .cell) (siteRows card soil rows r) ≡ partAt rowWidth (r .cell) (siteRows card soil' rows' r)
+      go : (b : Answer) → siteAnswer card soil rows i ≡ b → partAt rowWidth (cellOf i) (siteRows card soil rows i) ≡ partAt rowWidth (cellOf i) (siteRows card soil' rows' i)
       go (Accepted a) e =
-          own-row card soil rows r a e
-          ∙ ap (λ (s : List ℤ). newRow card s (partAt rowWidth (r .cell) rows) r) same-soil
-          ∙ ap (λ (w : List ℕ). newRow card (partAt soilWidth (r .cell) soil') w r) same-row
-          ∙ sym (own-row card soil' rows' r a (sym same-answer ∙ e))
+          own-row card soil rows i a e
+          ∙ ap (λ (s : List ℤ). newRow card s (partAt rowWidth (cellOf i) rows) i) same-soil
+          ∙ ap (λ (w : List ℕ). newRow card (partAt soilWidth (cellOf i) soil') w i) same-row
+          ∙ sym (own-row card soil' rows' i a (sym same-answer ∙ e))
       go (Refused why) e =
-          ap (partAt rowWidth (r .cell)) (rows-stay card soil rows r why e)
+          ap (partAt rowWidth (cellOf i)) (rows-stay card soil rows i why e)
           ∙ same-row
-          ∙ sym (ap (partAt rowWidth (r .cell)) (rows-stay card soil' rows' r why (sym same-answer ∙ e)))
+          ∙ sym (ap (partAt rowWidth (cellOf i)) (rows-stay card soil' rows' i why (sym same-answer ∙ e)))
 
 -- clearing has three numbers
 pub clear-most : (card : Card) (rows : List ℕ) → clearNumber card rows ≤ 2

@@ -15,6 +15,12 @@ use Rattle.text.proofs.reading.write.Kinds as reading-write
 use Rattle.text.proofs.reading.write.Reads as reading-write-reads
 use Rattle.text.proofs.print.line.Kinds as line
 use Rattle.text.proofs.print.line.Reads as line-reads
+use Rattle.text.proofs.void.read.Kinds as void-read
+use Rattle.text.proofs.void.read.Reads as void-read-reads
+use Rattle.text.proofs.void.write.Kinds as void-write
+use Rattle.text.proofs.void.write.Reads as void-write-reads
+use Rattle.text.proofs.entry.read.Kinds as entry-read
+use Rattle.text.proofs.entry.read.Reads as entry-read-reads
 use Rattle.text.proofs.print.answer.Kinds as answer
 use Rattle.text.proofs.print.answer.Reads as answer-reads
 use Rattle.text.proofs.print.sheet.Kinds as sheet
@@ -40,3 +46,12 @@ answer-settled κs a r r' x x' p p' = (p .written-is ∙ sym (p' .written-is), p
 
 pub sheet-settled : (κs : Lfts 1) (a : Dens κs sheet.ps) (r r' : resT sheet.r κs .Denot) (x x' : AtExit (endedOf 1 sheet.ps sheet.r) κs) → sheet-reads.Post κs a r x → sheet-reads.Post κs a r' x' → (r ≡ r') × (now (x .1 .0) ≡ now (x' .1 .0))
 sheet-settled κs a r r' x x' p p' = (p .written-is ∙ sym (p' .written-is), p .buffer-is ∙ sym (p' .buffer-is))
+
+pub void-read-settled : (κs : Lfts 1) (a : Dens κs void-read.ps) (r r' : resT void-read.r κs .Denot) (x x' : AtExit (endedOf 1 void-read.ps void-read.r) κs) → void-read-reads.Post κs a r x → void-read-reads.Post κs a r' x' → r ≡ r'
+void-read-settled κs a r r' x x' p p' = p ∙ sym p'
+
+pub void-write-settled : (κs : Lfts 1) (a : Dens κs void-write.ps) (r r' : resT void-write.r κs .Denot) (x x' : AtExit (endedOf 1 void-write.ps void-write.r) κs) → void-write-reads.Post κs a r x → void-write-reads.Post κs a r' x' → (r ≡ r') × (now (x .1 .0) ≡ now (x' .1 .0))
+void-write-settled κs a r r' x x' p p' = (p .written-is ∙ sym (p' .written-is), p .buffer-is ∙ sym (p' .buffer-is))
+
+pub entry-read-settled : (κs : Lfts 1) (a : Dens κs entry-read.ps) (r r' : resT entry-read.r κs .Denot) (x x' : AtExit (endedOf 1 entry-read.ps entry-read.r) κs) → entry-read-reads.Post κs a r x → entry-read-reads.Post κs a r' x' → r ≡ r'
+entry-read-settled κs a r r' x x' p p' = p ∙ sym p'

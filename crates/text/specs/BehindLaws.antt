@@ -15,14 +15,24 @@ use Rattle.form.specs.Words.{wordOf}
 use Rattle.form.specs.Ends.{lineEnds, firstLine, firstLines}
 use Rattle.form.specs.BehindLaws.{SameLines, form-line, form-same, form-next, many-same, many-next, byte-same, end-next}
 use Rattle.text.specs.declared.card.Counts.{Counts}
-use Rattle.text.specs.Lines.{readingForm, cardForm, depthForm, soilForm}
+use Rattle.text.specs.Lines.{readingForm, voidForm, cardForm, depthForm, soilForm}
 use Rattle.text.specs.Readings.{resultOf, readReading}
+use Rattle.text.specs.Voids.{voidResult, readVoid, readEntry}
 use Rattle.text.specs.Cards.{rangeCounts, countsOf, countsOfOut, depthsAt, Parsed, parse}
 
 -- reading a reading looks at the text's first line only, accepted or refused
 pub reading-behind : (s : List ℕ) → readReading s ≡ readReading (firstLine s)
 unfolding readReading
 reading-behind s = ap resultOf (form-line readingForm s refl refl)
+
+-- [3] so do reading a void, and reading an entry
+pub void-behind : (s : List ℕ) → readVoid s ≡ readVoid (firstLine s)
+unfolding readVoid
+void-behind s = ap voidResult (form-line voidForm s refl refl)
+
+pub entry-behind : (s : List ℕ) → readEntry s ≡ readEntry (firstLine s)
+unfolding readEntry
+entry-behind s = rw (void-behind s, reading-behind s)
 
 -- the lines that reading a card looks at: its own, or those up to the malformed one
 abbrev pub cardLines : Parsed → ℕ

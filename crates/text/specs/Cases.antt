@@ -17,6 +17,7 @@ use Rattle.cell.specs.declared.Refusal.the-variants.{Old}
 use Rattle.cell.specs.Ranges.{countsOk}
 use Rattle.cell.specs.Water.{water, net}
 use Rattle.text.specs.Readings.{readReading}
+use Rattle.text.specs.Voids.{voidText, readVoid, readEntry}
 use Rattle.text.specs.Cards.{parse, countsOf, rangeCounts, depthsAt, cardText, cardParts}
 use Rattle.text.specs.Printed.{answerText, lineText, sheetText}
 
@@ -58,6 +59,16 @@ pub malformed-readings : (number-of "cell=0 life=00 count=0 rain=50800 irrig=0 s
     × (number-of "cell=0 life=0 count=0 rain=4294967295 irrig=0 septic=1000 etmin=2000 pet=5000 amc=2 head=7fc00001\n" ≡ 0)
 unfolding readReading formAt valAt byteAt numAt numStart numGo hexAt hexGo
 malformed-readings = (refl, refl, refl, refl, refl)
+
+-- [3] a void, there and back, and texts that are none; a line with figures is neither a void nor a reading
+pub void-cases : (voidText (record { cell = 7; life = 0; count = 999999 }) ≡ bytes "void cell=7 life=0 count=999999\n")
+    × (readVoid (bytes "void cell=7 life=0 count=999999\nvoid\n") ≡ record { number = 0; taken = 32; line = 0; notice = record { cell = 7; life = 0; count = 999999 } })
+    × (readVoid (bytes "void cell=7 life=00 count=9\n") ≡ record { number = 12; taken = 0; line = 1; notice = record { cell = 0; life = 0; count = 0 } })
+    × (readVoid (bytes "void cell=7 life=0 count=9") .number ≡ 12)
+    × (readEntry (bytes "void cell=0 life=0 count=0 rain=50800 irrig=0 septic=1000 etmin=2000 pet=5000 amc=2 head=410c0000\n") .number ≡ 12)
+    × (readEntry (bytes "cell=0 life=0 count=0\n") .number ≡ 12)
+unfolding voidText readVoid readEntry readReading formText valText dec decF formAt valAt byteAt numAt numStart numGo hexAt hexGo
+void-cases = (refl, refl, refl, refl, refl, refl)
 
 -- what the program prints for them: three answers and the sheet; and a negative recharge
 pub printed : (answerText 0 (Accepted (record { inflow = water 51800; runoff = water 14287; etvad = water 2000; etstor = water 0; etsat = water 500; drain = water 0; release = water 0; stored = water 34513; recharge = net (pos 500); left = water 34513 }))

@@ -7,7 +7,7 @@ use native.Mathlib.Omega.{arith}
 use lib.ListN.{length, take, drop, getD}
 use lib.Seq.{sets, take-all}
 use lib.Dec.{T, ltb}
-use borrow.Author.Tests.{le-leb, lt-ltb}
+use borrow.Author.Tests.{lt-ltb}
 use Rattle.text.specs.declared.Written.{Written}
 use lib.IntN.{ℤ, pos}
 use lib.Ieee.{binary32, fits as floatFits}
@@ -24,8 +24,8 @@ use Rattle.form.specs.RunLaws.{form-length}
 use Rattle.text.specs.Lines.{readingForm}
 use Rattle.form.specs.Words.{wordOf, word-lt}
 use Rattle.text.specs.Readings.{valsOf, fieldsOf, textOf, readReading, carried, readAgain, Same, readingChecks}
-use Rattle.text.specs.Written.{fitsIn, Writes}
-use Rattle.text.specs.WrittenLaws.{writes-text}
+use Rattle.text.specs.Written.{Writes}
+use Rattle.text.specs.WrittenLaws.{line-again}
 
 -- a line that stands at the start of s
 one-line : (s : List ℕ) → formAt readingForm s 0 .ok ≡ true → FormRead readingForm s 0 (formAt readingForm s 0)
@@ -66,7 +66,7 @@ pub record Words (r : Reading) : Type 0 where
 bits-lt : (r : Reading) → Words r → patternOf (carried r) < 4294967296
 bits-lt r w = pattern-lt (carried r) (w .head) (w .nan)
 
-small : (n : ℕ) → n < 4294967296 → ltb n 4294967296 ≡ true
+pub small : (n : ℕ) → n < 4294967296 → ltb n 4294967296 ≡ true
 small n h = lt-ltb n 4294967296 h
 
 words-ok : (r : Reading) → Words r → fits readingForm (valsOf r) ≡ true
@@ -123,7 +123,4 @@ one-text s e = go (formAt readingForm s 0 .ok) refl
 pub reading-again : (s b : List ℕ) → readReading s .number ≡ 0 → length (take (readReading s .taken) s) ≤ length b → (w : Written) (after : List ℕ)
     → Writes (readingChecks (readReading s .reading) b) (textOf (readReading s .reading)) b w after
     → (w ≡ record { number = 0; len = length (take (readReading s .taken) s) }) × (after ≡ take (readReading s .taken) s ++ drop (length (take (readReading s .taken) s)) b)
-reading-again s b e l w after g =
-    let r = readReading s .reading in
-    let k : fitsIn (textOf r) b ≡ true = rw (← one-text s e) (le-leb _ _ l) in
-    rw (one-text s e) (writes-text (readingChecks r b) (textOf r) b w after g (rw k))
+reading-again s b e l w after g = line-again (take (readReading s .taken) s) (textOf (readReading s .reading)) b (one-text s e) l w after g

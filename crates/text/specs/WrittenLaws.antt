@@ -1,14 +1,14 @@
 -- What a writer gives on refusal, and where its checks are passed. Assumes nothing.
 use mathlib.Core.Path.{_≡_, sym, _∙_}
 use mathlib.Core.Bool.{Bool, true, false}
-use mathlib.Core.List.{List, _++_}
+use mathlib.Core.List.{List, [], _∷_, _++_}
 use Prim.Native.Nat.{ℕ, _+_, _≤_, _<_}
 use native.Mathlib.Omega.{arith}
 use borrow.Author.Tests.{le-leb, lt-leb, ne-eqb}
 use lib.Dec.{eqb}
 use lib.ListN.{length, drop}
 use lib.Seq.{sets, sets-eq}
-use Rattle.cell.specs.Refusals.{firstFailing}
+use Rattle.cell.specs.Refusals.{malformed, firstFailing}
 use Rattle.text.specs.declared.Written.{Written}
 use Rattle.text.specs.Written.{fitsIn, buffer, Writes}
 
@@ -38,3 +38,10 @@ module _ (checks : List (ℕ × Bool)) (t b : List ℕ) where
   pub writes-text : (w : Written) (after : List ℕ) → Writes checks t b w after → firstFailing checks ≡ 0
       → (w ≡ record { number = 0; len = length t }) × (after ≡ t ++ drop (length t) b)
   writes-text w after h e = (h .written-is ∙ rw e, h .buffer-is ∙ text-stands e)
+
+-- bytes that are a line's text, written into a buffer with room, stand there as they are
+pub line-again : (u t b : List ℕ) → u ≡ t → length u ≤ length b → (w : Written) (after : List ℕ) → Writes ((malformed, fitsIn t b) ∷ []) t b w after
+    → (w ≡ record { number = 0; len = length u }) × (after ≡ u ++ drop (length u) b)
+line-again u t b e l w after g =
+    let k : fitsIn t b ≡ true = rw (← e) (le-leb _ _ l) in
+    rw e (writes-text ((malformed, fitsIn t b) ∷ []) t b w after g (rw k))

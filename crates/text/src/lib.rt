@@ -1,4 +1,4 @@
-// Cards, readings, answers and the sheet as text: one text each.
+// Cards, readings, voids, answers and the sheet as text: one text each.
 ghost use mathlib.Core.List.{[], _∷_};
 ghost use Prim.Native.Nat.{_≤_};
 ghost use lib.ListN.{length};
@@ -9,8 +9,10 @@ use form::line::form_len;
 use form::line::put_form;
 
 pub mod card;
+pub mod entry;
 pub mod print;
 pub mod reading;
+pub mod void;
 
 // What writing gives: its number, and the length of the text.
 pub struct Written {

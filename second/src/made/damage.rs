@@ -1,7 +1,7 @@
 //! Damaged texts: a fair journal with one or more things done to its bytes.
 
 use super::dice::Dice;
-use super::readings;
+use super::entries;
 use super::site::Site;
 
 /// Values that don't fit, or only just do, or aren't decimals at all.
@@ -51,7 +51,7 @@ pub fn damaged(dice: &mut Dice) -> Vec<u8> {
     }
     let mut site = Site::made(dice);
     let count = dice.below(12);
-    let mut bytes = readings::journal(&mut site, dice, count);
+    let mut bytes = entries::journal(&mut site, dice, count);
     let times = if dice.once_in(6) { 2 } else { 1 };
     for _ in 0..times {
         harm(dice, &mut bytes);
@@ -64,13 +64,14 @@ pub fn harm(dice: &mut Dice, bytes: &mut Vec<u8>) {
     if bytes.is_empty() {
         return;
     }
-    match dice.below(9) {
+    match dice.below(10) {
         0 => one_byte(dice, bytes),
         1 | 2 => at_a_space(dice, bytes),
         3 | 4 => at_a_value(dice, bytes),
         5 => at_a_head(dice, bytes),
         6 => at_a_line(dice, bytes),
         7 => at_the_end(dice, bytes),
+        8 => at_a_void(dice, bytes),
         _ => at_the_card(dice, bytes),
     }
 }
@@ -151,6 +152,31 @@ fn at_a_head(dice: &mut Dice, bytes: &mut Vec<u8>) {
         3 if end > start => drop(bytes.remove(start)),
         4 if end > start => bytes[start] = dice.pick(b"gAF+- :/`@"),
         _ => drop(bytes.splice(start..end, *b"f149f2cA")),
+    }
+}
+
+/// Harm the first word of some void, give it figures, or make a void of a reading by its word alone.
+fn at_a_void(dice: &mut Dice, bytes: &mut Vec<u8>) {
+    let begins = |p: &usize| *p == 0 || bytes[*p - 1] == b'\n';
+    let entry = |p: &usize| bytes[*p..].starts_with(b"void ") || bytes[*p..].starts_with(b"cell=");
+    let starts: Vec<usize> = (0..bytes.len()).filter(begins).filter(entry).collect();
+    if starts.is_empty() {
+        return at_a_value(dice, bytes);
+    }
+    let start = dice.pick(&starts);
+    if bytes[start] != b'v' {
+        return drop(bytes.splice(start..start, *b"void "));
+    }
+    let end = bytes[start..].iter().position(|b| *b == b'\n').map_or(bytes.len(), |n| start + n);
+    match dice.below(8) {
+        0 => bytes[start..start + 4].make_ascii_uppercase(),
+        1 => drop(bytes.drain(start..start + 5)),
+        2 => drop(bytes.splice(start..start + 4, *b"void=")),
+        3 => drop(bytes.splice(start..start, *b"void ")),
+        4 => drop(bytes.remove(start + dice.place(5))),
+        5 => bytes.insert(start + dice.place(5), dice.pick(b"void \t")),
+        6 => drop(bytes.splice(end..end, *b" rain=0")),
+        _ => drop(bytes.splice(end..end, *b" void")),
     }
 }
 

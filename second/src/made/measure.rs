@@ -1,7 +1,8 @@
 //! Measured journals: well-formed lines that come to a wanted length.
 
 use super::dice::Dice;
-use super::readings::{card_bytes, made_reading, reading_bytes};
+use super::entries::{entry_bytes, made_entry, void_rarity};
+use super::readings::{card_bytes, reading_bytes};
 use super::site::Site;
 use crate::journal::LONGEST;
 use crate::numbers::Reading;
@@ -45,9 +46,10 @@ pub fn exactly(dice: &mut Dice, length: usize) -> Vec<u8> {
         site = Site::made(dice);
     }
     let mut bytes = card_bytes(&site);
+    let rarity = void_rarity(dice);
     // Leave room for some short lines, so that the rest can always be filled.
     while length - bytes.len() > 4 * shortest() {
-        bytes.extend(reading_bytes(&made_reading(&mut site, dice)));
+        bytes.extend(entry_bytes(&made_entry(&mut site, dice, rarity)));
     }
     while bytes.len() < length {
         let rest = length - bytes.len();

@@ -2,6 +2,7 @@
 
 pub mod damage;
 pub mod dice;
+pub mod entries;
 pub mod measure;
 pub mod readings;
 pub mod site;
@@ -13,7 +14,7 @@ use site::Site;
 /// The kinds of journals made.
 #[derive(Clone, Copy, Debug, PartialEq, Eq)]
 pub enum Kind {
-    /// A site in order; its readings may still hold faults.
+    /// A site in order; its readings and voids may still hold faults.
     Fair,
     /// A wet site over a deep table; its queue fills up.
     Wet,
@@ -65,7 +66,7 @@ pub fn journal(seed: u64, place: u64) -> Vec<u8> {
     journal_of_kind(seed, place).1
 }
 
-/// How many readings a journal gets; few mostly, many at times.
+/// How many readings and voids a journal gets; few mostly, many at times.
 fn how_many(dice: &mut Dice) -> u64 {
     match dice.below(20) {
         0 => dice.below(3),
@@ -75,11 +76,11 @@ fn how_many(dice: &mut Dice) -> u64 {
     }
 }
 
-/// A site in order and its readings.
+/// A site in order and its readings and voids.
 fn fair(dice: &mut Dice) -> Vec<u8> {
     let mut site = Site::made(dice);
     let count = how_many(dice);
-    readings::journal(&mut site, dice, count)
+    entries::journal(&mut site, dice, count)
 }
 
 /// A site whose card is out of range or not rising.
@@ -87,7 +88,7 @@ fn foul_card(dice: &mut Dice) -> Vec<u8> {
     let mut site = Site::made(dice);
     site.foul_card(dice);
     let count = dice.below(4);
-    readings::journal(&mut site, dice, count)
+    entries::journal(&mut site, dice, count)
 }
 
 /// A site with some soil numbers out of range.
@@ -97,5 +98,5 @@ fn foul_soil(dice: &mut Dice) -> Vec<u8> {
         site.foul_soil(dice);
     }
     let count = how_many(dice);
-    readings::journal(&mut site, dice, count)
+    entries::journal(&mut site, dice, count)
 }

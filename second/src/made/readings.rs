@@ -5,7 +5,6 @@ use super::site::{wanted_depth, Site, HEADS};
 use crate::head::{depth, DRY, INACTIVE};
 use crate::journal::LONGEST;
 use crate::numbers::{Reading, ROW, SOIL};
-use crate::step::step;
 use crate::text::{write_card, write_reading};
 
 /// The text of a site's card.
@@ -24,26 +23,6 @@ pub fn reading_bytes(reading: &Reading) -> Vec<u8> {
     assert_eq!(number, 0, "a reading fits its buffer");
     buffer.truncate(length);
     buffer
-}
-
-/// A journal of so many readings, never longer than the longest.
-pub fn journal(site: &mut Site, dice: &mut Dice, count: u64) -> Vec<u8> {
-    let mut bytes = card_bytes(site);
-    for _ in 0..count {
-        let line = reading_bytes(&made_reading(site, dice));
-        if bytes.len() + line.len() > LONGEST {
-            break;
-        }
-        bytes.extend(line);
-    }
-    bytes
-}
-
-/// One reading, taken by the site's rows if it is accepted.
-pub fn made_reading(site: &mut Site, dice: &mut Dice) -> Reading {
-    let reading = next_reading(site, dice);
-    step(&site.card, &site.soil, &mut site.rows, &reading);
-    reading
 }
 
 /// One reading, in its turn mostly; the rows stay as they are.

@@ -1,11 +1,12 @@
 //! Wet sites over deep tables: queues that fill up to their limits and are drawn on.
 
 use super::dice::Dice;
-use super::readings::{card_bytes, fault, reading_bytes};
+use super::entries::entry_bytes;
+use super::readings::{card_bytes, fault};
 use super::site::Site;
 use crate::head::DRY;
-use crate::numbers::{Card, Reading, ROW};
-use crate::step::step;
+use crate::numbers::{Card, Entry, Reading, ROW};
+use crate::step::enter;
 
 /// A cell with its top at 0 and delay depths a metre apart, so that heads hit them exactly.
 pub fn wet_site(dice: &mut Dice) -> Site {
@@ -54,6 +55,7 @@ pub fn wet(dice: &mut Dice) -> Vec<u8> {
     let faults = dice.once_in(2);
     // Low for changing weather, high for weeks of rain.
     let weather = dice.pick(&[4, 12, 1000]);
+    let rarity = dice.pick(&[6, 20, 1000]);
     for _ in 0..20 + dice.below(180) {
         let mut reading = wet_reading(&site, dice, delay, weather);
         match dice.below(30) {
@@ -61,8 +63,10 @@ pub fn wet(dice: &mut Dice) -> Vec<u8> {
             1 if faults => fault(&site, dice, &mut reading),
             _ => {}
         }
-        step(&site.card, &site.soil, &mut site.rows, &reading);
-        bytes.extend(reading_bytes(&reading));
+        let void = dice.once_in(rarity);
+        let entry = if void { Entry::Void(reading.turn()) } else { Entry::Reading(reading) };
+        enter(&site.card, &site.soil, &mut site.rows, &entry);
+        bytes.extend(entry_bytes(&entry));
         let anywhere = dice.below(u64::from(site.card.delays) + 1) as u32;
         delay = match (delay, dice.below(25)) {
             (_, 0) => anywhere,

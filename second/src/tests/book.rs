@@ -74,3 +74,51 @@ fn the_longest_journal() {
     assert_eq!(waterbook(&vec![b'\n'; 65_537]), b"code=12 line=0\n");
     assert_eq!(waterbook(&vec![b'\n'; 65_536]), b"code=12 line=1\n");
 }
+
+/// A gauge froze: its reading stays refused and each later one is a gap, until a void uses up the count.
+#[test]
+fn a_day_that_cannot_be_mended() {
+    let frozen = SECOND.replace("pet=5000", "pet=4294967295");
+    let [third, fourth] = [2, 3].map(|count| SECOND.replace("count=1", &format!("count={count}")));
+    let void = "void cell=0 life=0 count=1\n";
+    let journal = [CARD, FIRST, &frozen, &third, &frozen, &fourth, void, &third, void].concat();
+    let zeros =
+        "inflow=0 runoff=0 etvad=0 etstor=0 etsat=0 drain=0 release=0 stored=0 recharge=0 left=0";
+    let first = BOOK.lines().next().unwrap();
+    let refused = [8, 7, 8, 7].map(|number| format!("cell=0 code={number} {zeros}\n")).concat();
+    let mended = "\
+cell=0 code=0 inflow=0 runoff=0 etvad=0 etstor=0 etsat=0 drain=0 release=34513 stored=0 recharge=34513 left=0
+cell=0 code=0 inflow=0 runoff=0 etvad=0 etstor=0 etsat=833 drain=0 release=0 stored=0 recharge=-833 left=0
+";
+    let sheet = BOOK.lines().last().unwrap().replace("steps=2", "steps=3");
+    let wanted = format!("{first}\n{refused}{mended}cell=0 code=6 {zeros}\n{sheet}\n");
+    assert_eq!(book(&journal), wanted);
+}
+
+#[test]
+fn a_void_alone() {
+    let line = "cell=0 code=0 inflow=0 runoff=0 etvad=0 etstor=0 etsat=0 drain=0 release=0 stored=0 recharge=0 left=0\n";
+    let sheet = NOTHING.replace("steps=0", "steps=1");
+    assert_eq!(book(&[CARD, "void cell=0 life=7 count=0\n"].concat()), format!("{line}{sheet}"));
+    let far = line.replace("cell=0 code=0", "cell=4294967295 code=3");
+    let void = "void cell=4294967295 life=0 count=0\n";
+    assert_eq!(book(&[CARD, void].concat()), format!("{far}{NOTHING}"));
+}
+
+#[test]
+fn malformed_voids_stop_the_book() {
+    let first = BOOK.lines().next().unwrap();
+    let broken = [
+        "void\n",
+        "void cell=0 life=0 count=01\n",
+        "VOID cell=0 life=0 count=1\n",
+        "void  cell=0 life=0 count=1\n",
+        "cell=0 life=0 count=1\n",
+        "void cell=0 life=0 count=1",
+    ];
+    for void in broken {
+        let stopped = format!("{first}\ncode=12 line=4\n");
+        assert_eq!(book(&[CARD, FIRST, void].concat()), stopped, "{void:?}");
+    }
+    assert_eq!(book("void cell=0 life=0 count=0\n"), "code=12 line=1\n");
+}

@@ -2,11 +2,11 @@
 
 use crate::journal::waterbook;
 use crate::made::dice::Dice;
-use crate::made::readings::made_reading;
+use crate::made::entries::made_entry;
 use crate::made::site::Site;
 use crate::made::{journal, journal_of_kind};
-use crate::numbers::{row_in_range, Amounts, Reading, ROW};
-use crate::step::step;
+use crate::numbers::{row_in_range, Amounts, Entry, Reading, ROW};
+use crate::step::enter;
 use std::collections::BTreeMap;
 
 /// How often each number was met in the books of so many journals.
@@ -34,6 +34,31 @@ fn every_reachable_number_is_met() {
     println!("{tally:?}");
 }
 
+/// Voids in made books: accepted ones, refused ones, and malformed ones that stop the book.
+#[test]
+fn made_voids_are_met() {
+    let (mut accepted, mut refused, mut stops) = (0, 0, 0);
+    for place in 0..600 {
+        let bytes = journal(2025, place);
+        let book = String::from_utf8(waterbook(&bytes)).unwrap();
+        if !book.starts_with("cell=") {
+            continue;
+        }
+        let text = String::from_utf8_lossy(&bytes);
+        // Line 1 is the card's own, then a line per cell.
+        let cells: usize = text[6..].split(' ').next().unwrap().parse().unwrap();
+        for (line, answer) in text.lines().skip(1 + cells).zip(book.lines()) {
+            match answer.split(' ').find(|word| word.starts_with("code=")) {
+                _ if !line.starts_with("void") => {}
+                Some("code=0") => accepted += 1,
+                Some("code=12") => stops += 1,
+                _ => refused += 1,
+            }
+        }
+    }
+    assert!(accepted > 1000 && refused > 100 && stops > 5, "{accepted} {refused} {stops}");
+}
+
 #[test]
 fn the_same_each_time() {
     for place in [0, 1, 77, 123_456] {
@@ -43,8 +68,12 @@ fn the_same_each_time() {
     assert_ne!(journal(9, 0), journal(9, 1));
 }
 
-/// What went in must come out: today's water, the queue and the recharge.
-fn water_is_kept(r: &Reading, a: &Amounts, left_before: i64) {
+/// What went in must come out: today's water, the queue and the recharge; a void has no water of its own.
+fn water_is_kept(entry: &Entry, a: &Amounts, left_before: i64) {
+    let r = match entry {
+        Entry::Reading(reading) => *reading,
+        Entry::Void(_) => Reading::default(),
+    };
     let direct = i64::from(r.rain) + i64::from(r.irrig) - a.runoff - a.etvad - a.stored;
     assert!(direct >= 0 && a.runoff >= 0 && a.etvad >= 0 && a.etsat >= 0 && a.drain >= 0);
     assert!(a.etvad + a.etstor + a.etsat <= i64::from(r.pet));
@@ -55,24 +84,27 @@ fn water_is_kept(r: &Reading, a: &Amounts, left_before: i64) {
 
 #[test]
 fn water_is_kept_over_made_runs() {
-    let mut accepted = 0;
+    let (mut readings, mut voids) = (0, 0);
     for seed in 0..60 {
         let mut dice = Dice::new(seed);
         let mut site = Site::made(&mut dice);
         let mut rows = site.rows.clone();
         for _ in 0..300 {
-            let r = made_reading(&mut site, &mut dice);
-            let start = ROW * r.cell as usize;
+            let entry = made_entry(&mut site, &mut dice, 12);
+            let start = ROW * entry.turn().cell as usize;
             let before = rows
                 .get(start + 2..start + ROW)
                 .map_or(0, |s| s.iter().map(|w| i64::from(*w)).sum());
-            let (number, amounts) = step(&site.card, &site.soil, &mut rows, &r);
+            let (number, amounts) = enter(&site.card, &site.soil, &mut rows, &entry);
             if number == 0 {
-                water_is_kept(&r, &amounts, before);
+                water_is_kept(&entry, &amounts, before);
                 assert!(row_in_range(&rows[start..start + ROW], site.card.delays));
-                accepted += 1;
+                match entry {
+                    Entry::Reading(_) => readings += 1,
+                    Entry::Void(_) => voids += 1,
+                }
             }
         }
     }
-    assert!(accepted > 10_000);
+    assert!(readings > 10_000 && voids > 1000, "{readings} readings, {voids} voids");
 }

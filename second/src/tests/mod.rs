@@ -1,4 +1,4 @@
-//! The page's own cases, each refusal number, texts, books and made journals.
+//! The page's own cases, each refusal number, voids, texts, books and made journals.
 
 mod book;
 mod edges;
@@ -7,6 +7,8 @@ mod made;
 mod refusals;
 mod sheets;
 mod texts;
+mod void_texts;
+mod voids;
 
 use crate::numbers::{Card, Reading};
 

@@ -23,14 +23,14 @@ same-length-2 c = search needs
 returns : tie.Need-returns
 returns c = let p = rw (c .before .before .before .before .before .before .before .clear .ensures .number-is) at (c .before .before .put-code .ensures) in rw (cleared-code (c .before .before .before .before .before .before .before .before .before .before .before .before .args .card) (c .before .before .before .before .before .before .before .before .before .before .before .before .args .soil .now) (c .before .before .before .before .before .before .before .before .before .before .before .before .args .rows .now) (c .before .before .before .before .before .before .before .before .before .before .before .before .args .rest .now) (rw (c .before .before .before .before .before .before .before .clear .ensures .number-is) at (c .before .before .before .before .if1 .taken))) (p .0 ∙ zero-add _, p .1)
 
-cast-put-readings : tie.Need-cast-put-readings
-cast-put-readings c = search needs
+cast-put-entries : tie.Need-cast-put-entries
+cast-put-entries c = search needs
 
-add-put-readings : tie.Need-add-put-readings
-add-put-readings c = search needs
+add-put-entries : tie.Need-add-put-entries
+add-put-entries c = search needs
 
-put-readings-requires : tie.Need-put-readings-requires
-put-readings-requires c κs = (omega (arith, c .before .before .before .before .before .before .before .before .before .before .before .pre .0), rw (c .before .before .before .before .before .before .clear .ensures .rows-are) (omega (arith, ap length (cleared-more (c .before .before .before .before .before .before .before .before .before .before .before .args .card) (c .before .before .before .before .before .before .before .before .before .before .before .args .soil .now) (c .before .before .before .before .before .before .before .before .before .before .before .args .rows .now) (c .before .before .before .before .before .before .before .before .before .before .before .args .rest .now) (sym (c .before .before .before .before .before .before .clear .ensures .number-is) ∙ c .before .before .before .if1 .left)), c .before .before .before .before .before .before .before .before .before .before .before .pre .1)))
+put-entries-requires : tie.Need-put-entries-requires
+put-entries-requires c κs = (omega (arith, c .before .before .before .before .before .before .before .before .before .before .before .pre .0), rw (c .before .before .before .before .before .before .clear .ensures .rows-are) (omega (arith, ap length (cleared-more (c .before .before .before .before .before .before .before .before .before .before .before .args .card) (c .before .before .before .before .before .before .before .before .before .before .before .args .soil .now) (c .before .before .before .before .before .before .before .before .before .before .before .args .rows .now) (c .before .before .before .before .before .before .before .before .before .before .before .args .rest .now) (sym (c .before .before .before .before .before .before .clear .ensures .number-is) ∙ c .before .before .before .if1 .left)), c .before .before .before .before .before .before .before .before .before .before .before .pre .1)))
 
 same-length-3 : tie.Need-same-length-3
 same-length-3 c = search needs
@@ -39,7 +39,7 @@ same-length-4 : tie.Need-same-length-4
 same-length-4 c = search needs
 
 returns-2 : tie.Need-returns-2
-returns-2 c = rw (cleared-more (c .before .before .before .before .before .before .before .before .before .before .before .before .before .before .before .before .args .card) (c .before .before .before .before .before .before .before .before .before .before .before .before .before .before .before .before .args .soil .now) (c .before .before .before .before .before .before .before .before .before .before .before .before .before .before .before .before .args .rows .now) (c .before .before .before .before .before .before .before .before .before .before .before .before .before .before .before .before .args .rest .now) (sym (c .before .before .before .before .before .before .before .before .before .before .before .clear .ensures .number-is) ∙ c .before .before .before .before .before .before .before .before .if1 .left)) (rw (c .before .before .before .before .before .before .before .before .before .before .before .clear .ensures .rows-are) at (c .before .before .before .before .put-readings .ensures))
+returns-2 c = rw (cleared-more (c .before .before .before .before .before .before .before .before .before .before .before .before .before .before .before .before .args .card) (c .before .before .before .before .before .before .before .before .before .before .before .before .before .before .before .before .args .soil .now) (c .before .before .before .before .before .before .before .before .before .before .before .before .before .before .before .before .args .rows .now) (c .before .before .before .before .before .before .before .before .before .before .before .before .before .before .before .before .args .rest .now) (sym (c .before .before .before .before .before .before .before .before .before .before .before .clear .ensures .number-is) ∙ c .before .before .before .before .before .before .before .before .if1 .left)) (rw (c .before .before .before .before .before .before .before .before .before .before .before .clear .ensures .rows-are) at (c .before .before .before .before .put-entries .ensures))
 
 pub cleared-spec : {M : Type 1} → statement M
 cleared-spec =
@@ -50,9 +50,9 @@ cleared-spec =
     same-length
     same-length-2
     returns
-    cast-put-readings
-    add-put-readings
-    put-readings-requires
+    cast-put-entries
+    add-put-entries
+    put-entries-requires
     same-length-3
     same-length-4
     returns-2)

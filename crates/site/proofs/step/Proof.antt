@@ -10,7 +10,8 @@ use lib.IntN.{ℤ}
 use lib.ListN.{length, take, drop}
 use Rattle.cell.specs.declared.Answer.{Answer}
 use Rattle.cell.specs.declared.Card.{Card}
-use Rattle.cell.specs.declared.Reading.{Reading}
+use Rattle.cell.specs.declared.Entry.{Entry}
+use Rattle.cell.specs.Ranges.{cellOf}
 use Rattle.cell.specs.Step.{StepGives}
 use Rattle.site.specs.Rows.{partAt, putAt}
 use Rattle.site.specs.Site.{soilFits, rowsFit, cellFits, SiteGives}
@@ -37,32 +38,37 @@ module _ (card : Card) (soil : List ℤ) (rows : List ℕ) where
   unfolding soilFits rowsFit
   both-fit e f = rw (eq-eqb _ _ e, eq-eqb _ _ f)
 
-cell-off : (card : Card) (r : Reading) → card .cells ≤ r .cell → cellFits card r ≡ false
+-- the cell that the code has is the entry's
+cell-off : (card : Card) (i : Entry) {k : ℕ} → k ≡ cellOf i → card .cells ≤ k → cellFits card i ≡ false
 unfolding cellFits
-cell-off card r h = le-ltb _ _ h
+cell-off card i ek h = rw (← ek) (le-ltb _ _ h)
 
-cell-on : (card : Card) (r : Reading) → r .cell < card .cells → cellFits card r ≡ true
+cell-on : (card : Card) (i : Entry) {k : ℕ} → k ≡ cellOf i → k < card .cells → cellFits card i ≡ true
 unfolding cellFits
-cell-on card r h = lt-ltb _ _ h
+cell-on card i ek h = rw (← ek) (lt-ltb _ _ h)
 
 -- what the named row gave, put back in its place
-module _ (card : Card) (soil : List ℤ) (rows : List ℕ) (r : Reading) (e : (soilFits card soil && rowsFit card rows) ≡ true) (f : cellFits card r ≡ true) where
-  row-gave : (answer : Answer) (after : List ℕ)
-      → StepGives card (take (5 * r .cell + 5 - 5 * r .cell) (drop (5 * r .cell) soil)) (take (32 * r .cell + 32 - 32 * r .cell) (drop (32 * r .cell) rows)) r answer after
-      → SiteGives card soil rows r answer (putMid (32 * r .cell) (32 * r .cell + 32 - 32 * r .cell) rows after)
+module _ (card : Card) (soil : List ℤ) (rows : List ℕ) (i : Entry) (e : (soilFits card soil && rowsFit card rows) ≡ true) (f : cellFits card i ≡ true) where
+  row-gave : (k : ℕ) → k ≡ cellOf i → (answer : Answer) (after : List ℕ)
+      → StepGives card (take (5 * k + 5 - 5 * k) (drop (5 * k) soil)) (take (32 * k + 32 - 32 * k) (drop (32 * k) rows)) i answer after
+      → SiteGives card soil rows i answer (putMid (32 * k) (32 * k + 32 - 32 * k) rows after)
   unfolding partAt putAt
-  row-gave answer after g =
-      let s : 5 * r .cell + 5 - 5 * r .cell ≡ 5 = omega arith in
-      let w : 32 * r .cell + 32 - 32 * r .cell ≡ 32 = omega arith in
-      let h : StepGives card (partAt 5 (r .cell) soil) (partAt 32 (r .cell) rows) r answer after = rw (s, w) at g in
-      gives card soil rows r
-      (h .answer-is ∙ sym (reached card soil rows r e f))
-      (ap (λ (t : List ℕ). take (32 * r .cell) rows ++ (after ++ t)) (post-is (32 * r .cell) (32 * r .cell + 32) rows (omega arith))
-      ∙ ap (λ (t : List ℕ). putAt 32 (r .cell) t rows) (h .row-is)
-      ∙ sym (rows-reached card soil rows r e f))
+  row-gave k ek answer after g =
+      let s : 5 * k + 5 - 5 * k ≡ 5 = omega arith in
+      let w : 32 * k + 32 - 32 * k ≡ 32 = omega arith in
+      let h : StepGives card (partAt 5 (cellOf i) soil) (partAt 32 (cellOf i) rows) i answer after = rw (s, w, ek) at g in
+      gives card soil rows i
+      (h .answer-is ∙ sym (reached card soil rows i e f))
+      (ap (λ (t : List ℕ). take (32 * k) rows ++ (after ++ t)) (post-is (32 * k) (32 * k + 32) rows (omega arith))
+      ∙ ap (λ (c : ℕ). putAt 32 c after rows) ek
+      ∙ ap (λ (t : List ℕ). putAt 32 (cellOf i) t rows) (h .row-is)
+      ∙ sym (rows-reached card soil rows i e f))
 
 cast-cells : tie.Need-cast-cells
 cast-cells c = search needs
+
+cell-of-requires : tie.Need-cell-of-requires
+cell-of-requires c κs = search needs
 
 cast-cell : tie.Need-cast-cell
 cast-cell c = search needs
@@ -76,7 +82,7 @@ refused-requires c κs = search needs
 returns : tie.Need-returns
 returns c =
     let a = c .before .before .before .before .before .args in
-    rw (c .refused .ensures) (refused-gives (a .card) (a .soil .now) (a .rows .now) (a .r) _ (lengths-bad (a .card) (a .soil .now) (a .rows .now) (a .r) (soil-off _ _ _ (c .before .if1 .taken))))
+    rw (c .refused .ensures) (refused-gives (a .card) (a .soil .now) (a .rows .now) (a .e) _ (lengths-bad (a .card) (a .soil .now) (a .rows .now) (a .e) (soil-off _ _ _ (c .before .if1 .taken))))
 
 mul-if2 : tie.Need-mul-if2
 mul-if2 c = search needs
@@ -87,7 +93,7 @@ refused-requires-2 c κs = search needs
 returns-2 : tie.Need-returns-2
 returns-2 c =
     let a = c .before .before .before .before .before .before .args in
-    rw (c .refused2 .ensures) (refused-gives (a .card) (a .soil .now) (a .rows .now) (a .r) _ (lengths-bad (a .card) (a .soil .now) (a .rows .now) (a .r) (rows-off _ _ _ (c .before .before .if1 .left) (c .before .if2 .taken))))
+    rw (c .refused2 .ensures) (refused-gives (a .card) (a .soil .now) (a .rows .now) (a .e) _ (lengths-bad (a .card) (a .soil .now) (a .rows .now) (a .e) (rows-off _ _ _ (c .before .before .if1 .left) (c .before .if2 .taken))))
 
 refused-requires-3 : tie.Need-refused-requires-3
 refused-requires-3 c κs = search needs
@@ -95,7 +101,7 @@ refused-requires-3 c κs = search needs
 returns-3 : tie.Need-returns-3
 returns-3 c =
     let a = c .before .before .before .before .before .before .before .args in
-    rw (c .refused3 .ensures) (refused-gives (a .card) (a .soil .now) (a .rows .now) (a .r) _ (cell-bad (a .card) (a .soil .now) (a .rows .now) (a .r) (both-fit _ _ _ (c .before .before .before .if1 .left) (c .before .before .if2 .left)) (cell-off _ _ (c .before .if3 .taken))))
+    rw (c .refused3 .ensures) (refused-gives (a .card) (a .soil .now) (a .rows .now) (a .e) _ (cell-bad (a .card) (a .soil .now) (a .rows .now) (a .e) (both-fit _ _ _ (c .before .before .before .if1 .left) (c .before .before .if2 .left)) (cell-off _ _ (c .before .before .before .before .cell-of .ensures) (c .before .if3 .taken))))
 
 mul-s : tie.Need-mul-s
 mul-s c = search needs
@@ -143,13 +149,15 @@ returns-4 : tie.Need-returns-4
 returns-4 c =
     let a = c .before .before .before .before .before .before .before .before .before .before .before .args in
     let t = c .before .before .step-row in
-    row-gave (a .card) (a .soil .now) (a .rows .now) (a .r) (both-fit _ _ _ (c .before .before .before .before .before .before .before .if1 .left) (c .before .before .before .before .before .before .if2 .left)) (cell-on _ _ (c .before .before .before .before .before .if3 .left)) (t .result) (t .last .1 .1 .0) (t .ensures)
+    let k = c .before .before .before .before .before .before .before .before .cell-of in
+    row-gave (a .card) (a .soil .now) (a .rows .now) (a .e) (both-fit _ _ _ (c .before .before .before .before .before .before .before .if1 .left) (c .before .before .before .before .before .before .if2 .left)) (cell-on _ _ (k .ensures) (c .before .before .before .before .before .if3 .left)) (k .result) (k .ensures) (t .result) (t .last .1 .1 .0) (t .ensures)
 
 pub step-spec : {M : Type 1} → statement M
 step-spec =
     tie.close
     (tie.spec
     cast-cells
+    cell-of-requires
     cast-cell
     mul-if1
     refused-requires

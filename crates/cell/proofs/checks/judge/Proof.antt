@@ -11,19 +11,20 @@ use lib.ListN.{length, getD}
 use mir.Facts.{toZ-ofZ}
 use Rattle.head.specs.Class.{classOf}
 use Rattle.cell.specs.declared.Card.{Card}
+use Rattle.cell.specs.declared.Entry.{Entry}
 use Rattle.cell.specs.declared.Reading.{Reading}
 use Rattle.cell.specs.declared.Refusal.the-variants.{BadCard, BadSoil, BadRow, Old, Gap, BadReading}
-use Rattle.cell.specs.Ranges.{cardOk, soilOk, rowOk, fieldsOk, lifeOf, nextOf}
-use Rattle.cell.specs.Refusals.{isOld, isGap, sounded, unless, verdictOf}
+use Rattle.cell.specs.Ranges.{cardOk, soilOk, rowOk, fieldsOk, noticed, lifeOf, nextOf}
+use Rattle.cell.specs.Refusals.{isOld, isGap, sounded, unless, fieldsVerdict, verdictOf}
 use Rattle.cell.specs.RangeLaws.{card-in, row-in, soil-in}
 use Rattle.cell.proofs.checks.judge.Statement.{statement}
 use Rattle.cell.proofs.checks.judge.Tie as tie
 
 module _ (card : Card) (soil : List ℤ) (row : List ℕ) (r : Reading) where
-  by-checks : {a b c d e f : Bool} → cardOk card ≡ a → soilOk soil ≡ b → rowOk (card .delays) row ≡ c → isOld (lifeOf row) (nextOf row) r ≡ d → isGap (lifeOf row) (nextOf row) r ≡ e → fieldsOk r ≡ f
+  by-checks : {a b c d e f : Bool} → cardOk card ≡ a → soilOk soil ≡ b → rowOk (card .delays) row ≡ c → isOld (lifeOf row) (nextOf row) (noticed r) ≡ d → isGap (lifeOf row) (nextOf row) (noticed r) ≡ e → fieldsOk r ≡ f
       → unless a BadCard (unless b BadSoil (unless c BadRow (unless (not d) Old (unless (not e) Gap (unless f BadReading (sounded (getD soil 0 (pos 0)) (classOf (r .head))))))))
-      ≡ verdictOf card soil row r
-  unfolding verdictOf
+      ≡ verdictOf card soil row (Entry.Reading r)
+  unfolding verdictOf fieldsVerdict
   by-checks p q s t u v = rw (p, q, s, t, u, v)
 
 card-good : (c : tie.Else1) → cardOk (c .before .before .before .args .card) ≡ true
