@@ -12,6 +12,7 @@ use lib.Seq.{take-all, length-take-le, getD-take}
 use native.Mathlib.Decide.{decLe}
 use native.Mathlib.Omega.{arith}
 use Rattle.cell.specs.declared.Card.{Card}
+use Rattle.cell.specs.declared.Notice.{Notice}
 use Rattle.cell.specs.declared.Reading.{Reading}
 use Rattle.cell.specs.Ranges.{countsOk, noneOf, risingFrom, cardOk, depthsOk, within, soilOk, soilOf, lifeOf, nextOf, slotsOf, queueOf, slotsOk, rowOk, noticeOk, fieldsOk}
 use Rattle.cell.specs.Conj.{told}
@@ -206,3 +207,8 @@ fields-in r e =
       amc-low = leb-true _ _ (p 8);
       amc = leb-true _ _ (p 9);
     }
+
+-- [4] a notice whose life and count are in range
+pub notice-ok : (n : Notice) → n .life ≤ 65535 → n .count ≤ 999999 → noticeOk n ≡ true
+unfolding noticeOk
+notice-ok n l c = rw (le-leb (n .life) 65535 l, le-leb (n .count) 999999 c)
