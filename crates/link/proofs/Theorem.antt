@@ -13,6 +13,7 @@ use Rattle.cell.specs.declared.Entry.{Entry}
 use Rattle.cell.specs.declared.Notice.{Notice}
 use Rattle.cell.specs.CheckLaws.{InOrder}
 use Rattle.cell.specs.Ranges.{noticeOf, cellOf}
+use Rattle.outbox.specs.declared.Offered.the-variants.{Oldest}
 use Rattle.outbox.specs.declared.Outbox.{Outbox}
 use Rattle.outbox.specs.declared.Place.{Place}
 use Rattle.outbox.specs.Outbox.{full, notice, voidOf, place, heldOf, oldestOf, boxOf, isNext, offerOf, addedOf, replacedOf, acknowledgedOf, swappedOf}
@@ -108,26 +109,21 @@ module _ (cell : ℕ) (G : Gateway) (O : Orderly cell G) where
             (box-has (Accounted (s .made) (s .accepted) (s .emptied)) (s .box .cell) (s .box .life) (s .box .next) (place (voidOf (p .entry)) ∷ ps)
             (accounted-holds (v .fates) (place (voidOf (p .entry)) ∷ ps) (rw (o .holds) at (v .fates .oldest)))))
 
-    keeps-sending : Holding (sending cell G s)
-    keeps-sending =
+    keeps-sending : (e : Entry) → Among e (entriesIn (s .box)) → Holding (sending cell G s e)
+    keeps-sending e h =
         record {
           node = v .node;
           fates = v .fates;
-          posted = λ e m. go e (offers (s .box)) (among-either e (s .sent) (brought (offerOf (s .box))) m);
+          posted = λ x m. go x (among-either x (s .sent) (e ∷ []) m);
           lost = v .lost;
           now = v .now;
           acked = v .acked;
           reached = v .reached;
         }
       where
-        go : (e : Entry) → ((p : Place) × (ps : List Place) × Offers (s .box) p ps) ⊎ ((brought (offerOf (s .box)) ≡ []) × (replacedOf (s .box) .outbox ≡ s .box))
-            → Among e (s .sent) ⊎ Among e (brought (offerOf (s .box))) → InPlace (s .made) (s .voids) e
-        go e o (inl m) = v .posted e m
-        go e (inl (p, ps, o)) (inr m) = only (subst (Among e) (o .offers) m)
-          where
-            only : Among e (p .entry ∷ []) → InPlace (s .made) (s .voids) e
-            only (inl k) = rw k (v .node .placed p (subst⁻¹ (Among p) (o .holds) (inl refl)))
-        go e (inr t) (inr m) = absurd (subst (Among e) (t .0) m)
+        go : (x : Entry) → Among x (s .sent) ⊎ Among x (e ∷ []) → InPlace (s .made) (s .voids) x
+        go x (inl m) = v .posted x m
+        go x (inr (inl k)) = let r = map-among held-entry e (heldOf (s .box)) h in rw (k, r .2) (v .node .placed (r .0) (r .1))
 
     keeps-hearing : (c : G .Call) (taken : Bool) (h : G .State) → G .Gives (s .row) c taken h → Among (G .brings c) (s .sent) ⊎ ¬ (cellOf (G .brings c) ≡ cell) → Holding (hearing cell G s c taken h)
     keeps-hearing c taken h gives w =
@@ -236,7 +232,7 @@ module _ (cell : ℕ) (G : Gateway) (O : Orderly cell G) where
   inv (starts g f el en) = at-start g el en
   inv (makes {s} r e) = keeps-making s (inv r) e
   inv (puts-void {s} r) = keeps-voiding s (inv r)
-  inv (sends {s} r) = keeps-sending s (inv r)
+  inv (sends {s} r e h) = keeps-sending s (inv r) e h
   inv (hears {s} r c taken h g w) = keeps-hearing s (inv r) c taken h g w
   inv (answers {s} r) = keeps-answering s (inv r)
   inv (learns {s} r a m) = keeps-learning s (inv r) a m
@@ -248,11 +244,22 @@ module _ (cell : ℕ) (G : Gateway) (O : Orderly cell G) where
   in-form (starts g f el en) = fresh-form cell (fresh-cell cell f)
   in-form (makes {s} r e) = add-form (s .box) (in-form r) e
   in-form (puts-void {s} r) = replace-form (s .box) (in-form r)
-  in-form (sends r) = in-form r
+  in-form (sends r e h) = in-form r
   in-form (hears r c taken h g w) = in-form r
   in-form (answers r) = in-form r
   in-form (learns {s} r a m) = acknowledge-form (s .box) (in-form r) (a .life) (a .next)
   in-form (swaps {s} r l) = swap-form (s .box) (in-form r) l
+
+  -- what it offers may be sent
+  pub sends-offer : {s : Moment G} → Run cell G s → (e : Entry) → offerOf (s .box) ≡ Oldest e → Run cell G (sending cell G s e)
+  sends-offer {s} r e o = go (offers (s .box))
+    where
+      go : ((p : Place) × (ps : List Place) × Offers (s .box) p ps) ⊎ ((brought (offerOf (s .box)) ≡ []) × (replacedOf (s .box) .outbox ≡ s .box)) → Run cell G (sending cell G s e)
+      go (inl (p, ps, h)) =
+          let q : e ∷ [] ≡ p .entry ∷ [] = sym (ap brought o) ∙ h .offers in
+          let k : e ≡ p .entry = cc in
+          sends r e (subst⁻¹ (λ (xs : List Place). Among e (map held-entry xs)) (h .holds) (inl k))
+      go (inr t) = let z : e ∷ [] ≡ [] = sym (ap brought o) ∙ t .0 in let y : _≡_ {A = ℕ} 0 1 = cc in absurd (omega arith)
 
   -- and stays the cell's
   pub own-cell : {s : Moment G} → Run cell G s → s .box .cell ≡ cell

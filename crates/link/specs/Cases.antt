@@ -66,29 +66,35 @@ cleared = replicate 32 0
 
 -- ---- the events
 -- two readings are made, the second of a gauge that froze; the first is sent, heard, and heard again
+abbrev pub sent : Moment G
+sent = sending 0 G (making 0 G (making 0 G (first 0 G cleared) (day 0 0 50800)) (day 0 1 1000001)) (day 0 0 50800)
+
 abbrev pub repeated : Moment G
-repeated = hear (hear (sending 0 G (making 0 G (making 0 G (first 0 G cleared) (day 0 0 50800)) (day 0 1 1000001))) (day 0 0 50800)) (day 0 0 50800)
+repeated = hear (hear sent (day 0 0 50800)) (day 0 0 50800)
 
 -- the row's life and next count reach the node
 abbrev pub told : Moment G
 told = learning 0 G (answering 0 G repeated) (record { life = 0; next = 1; heard = day 0 0 50800 ∷ [] })
 
 -- the second is refused; a void takes its place and is heard. A third is made, and the void's acknowledgement reaches the node
+abbrev pub replaced : Moment G
+replaced = voiding 0 G (hear (sending 0 G told (day 0 1 1000001)) (day 0 1 1000001))
+
 abbrev pub voided : Moment G
-voided = making 0 G (hear (sending 0 G (voiding 0 G (hear (sending 0 G told) (day 0 1 1000001)))) (voidOf (day 0 1 1000001))) (day 0 2 0)
+voided = making 0 G (hear (sending 0 G replaced (voidOf (day 0 1 1000001))) (voidOf (day 0 1 1000001))) (day 0 2 0)
 
 abbrev pub learnt : Moment G
 learnt = learning 0 G (answering 0 G voided) (record { life = 0; next = 2; heard = day 0 0 50800 ∷ voidOf (day 0 1 1000001) ∷ [] })
 
 -- a swap empties the outbox, and a reading of the new life is heard
 abbrev pub swapped : Moment G
-swapped = hear (sending 0 G (making 0 G (swapping 0 G learnt 1) (day 1 0 0))) (day 1 0 0)
+swapped = hear (sending 0 G (making 0 G (swapping 0 G learnt 1) (day 1 0 0)) (day 1 0 0)) (day 1 0 0)
 
 -- ---- each event is one that may happen
 runs-repeated : Run 0 G repeated
 unfolding card soil cleared takes floorDiv usable floorUm levelUm classOf carriedOf patternOf isNan nanBits ofBits toBits sided depthOf distance slot total shifted taken spared joined countsOk noneOf risingFrom depthsOk cardOk within soilOk soilOf lifeOf nextOf slotsOf queueOf slotsOk rowOk noticeOk fieldsOk isOld isGap sounded unless fieldsVerdict verdictOf curveOf stormOf reachOf delayOf shallowOf runoffOf lackOf fadingOf etsatOf drainOf storedOf directOf rechargeOf given release curve storm delay runoff etvad lack draws etstor etsat drain sunk stored direct recharge queueAfter stepAmounts shiftAmounts amountsBy queueBy rowAfter judged answerOf newRow partAt putAt soilFits rowsFit cellFits refuse siteAnswer rowsBy siteRows box.same box.isZero box.padded box.heldOf box.boxOf box.numbersOk box.inTurn box.allSpare box.formOk box.unless box.freshOf box.oldest box.offerOf box.isNext box.withEntry box.addedOf box.replacing box.replacedOf box.isHeard box.without box.acknowledgedOf box.isHigher box.swappedOf
 runs-repeated =
-    let s = sends (makes (makes (starts cleared refl refl refl) (day 0 0 50800)) (day 0 1 1000001)) in
+    let s : Run 0 G sent = sends (makes (makes (starts cleared refl refl refl) (day 0 0 50800)) (day 0 1 1000001)) (day 0 0 50800) (inl refl) in
     hears (hears s (step (day 0 0 50800)) _ _ (given-it _ (day 0 0 50800)) (inl (inl refl))) (step (day 0 0 50800)) _ _ (given-it _ (day 0 0 50800)) (inl (inl refl))
 
 runs-told : Run 0 G told
@@ -98,8 +104,8 @@ runs-told = learns (answers runs-repeated) (record { life = 0; next = 1; heard =
 runs-voided : Run 0 G voided
 unfolding card soil cleared takes floorDiv usable floorUm levelUm classOf carriedOf patternOf isNan nanBits ofBits toBits sided depthOf distance slot total shifted taken spared joined countsOk noneOf risingFrom depthsOk cardOk within soilOk soilOf lifeOf nextOf slotsOf queueOf slotsOk rowOk noticeOk fieldsOk isOld isGap sounded unless fieldsVerdict verdictOf curveOf stormOf reachOf delayOf shallowOf runoffOf lackOf fadingOf etsatOf drainOf storedOf directOf rechargeOf given release curve storm delay runoff etvad lack draws etstor etsat drain sunk stored direct recharge queueAfter stepAmounts shiftAmounts amountsBy queueBy rowAfter judged answerOf newRow partAt putAt soilFits rowsFit cellFits refuse siteAnswer rowsBy siteRows box.same box.isZero box.padded box.heldOf box.boxOf box.numbersOk box.inTurn box.allSpare box.formOk box.unless box.freshOf box.oldest box.offerOf box.isNext box.withEntry box.addedOf box.replacing box.replacedOf box.isHeard box.without box.acknowledgedOf box.isHigher box.swappedOf
 runs-voided =
-    let s = puts-void (hears (sends runs-told) (step (day 0 1 1000001)) _ _ (given-it _ (day 0 1 1000001)) (inl (inr (inl refl)))) in
-    makes (hears (sends s) (step (voidOf (day 0 1 1000001))) _ _ (given-it _ (voidOf (day 0 1 1000001))) (inl (inr (inr (inl refl))))) (day 0 2 0)
+    let s : Run 0 G replaced = puts-void (hears (sends runs-told (day 0 1 1000001) (inl refl)) (step (day 0 1 1000001)) _ _ (given-it _ (day 0 1 1000001)) (inl (inr (inl refl)))) in
+    makes (hears (sends s (voidOf (day 0 1 1000001)) (inl refl)) (step (voidOf (day 0 1 1000001))) _ _ (given-it _ (voidOf (day 0 1 1000001))) (inl (inr (inr (inl refl))))) (day 0 2 0)
 
 runs-learnt : Run 0 G learnt
 unfolding card soil cleared takes floorDiv usable floorUm levelUm classOf carriedOf patternOf isNan nanBits ofBits toBits sided depthOf distance slot total shifted taken spared joined countsOk noneOf risingFrom depthsOk cardOk within soilOk soilOf lifeOf nextOf slotsOf queueOf slotsOk rowOk noticeOk fieldsOk isOld isGap sounded unless fieldsVerdict verdictOf curveOf stormOf reachOf delayOf shallowOf runoffOf lackOf fadingOf etsatOf drainOf storedOf directOf rechargeOf given release curve storm delay runoff etvad lack draws etstor etsat drain sunk stored direct recharge queueAfter stepAmounts shiftAmounts amountsBy queueBy rowAfter judged answerOf newRow partAt putAt soilFits rowsFit cellFits refuse siteAnswer rowsBy siteRows box.same box.isZero box.padded box.heldOf box.boxOf box.numbersOk box.inTurn box.allSpare box.formOk box.unless box.freshOf box.oldest box.offerOf box.isNext box.withEntry box.addedOf box.replacing box.replacedOf box.isHeard box.without box.acknowledgedOf box.isHigher box.swappedOf
@@ -107,7 +113,7 @@ runs-learnt = learns (answers runs-voided) (record { life = 0; next = 2; heard =
 
 pub worked : Run 0 G swapped
 unfolding card soil cleared takes floorDiv usable floorUm levelUm classOf carriedOf patternOf isNan nanBits ofBits toBits sided depthOf distance slot total shifted taken spared joined countsOk noneOf risingFrom depthsOk cardOk within soilOk soilOf lifeOf nextOf slotsOf queueOf slotsOk rowOk noticeOk fieldsOk isOld isGap sounded unless fieldsVerdict verdictOf curveOf stormOf reachOf delayOf shallowOf runoffOf lackOf fadingOf etsatOf drainOf storedOf directOf rechargeOf given release curve storm delay runoff etvad lack draws etstor etsat drain sunk stored direct recharge queueAfter stepAmounts shiftAmounts amountsBy queueBy rowAfter judged answerOf newRow partAt putAt soilFits rowsFit cellFits refuse siteAnswer rowsBy siteRows box.same box.isZero box.padded box.heldOf box.boxOf box.numbersOk box.inTurn box.allSpare box.formOk box.unless box.freshOf box.oldest box.offerOf box.isNext box.withEntry box.addedOf box.replacing box.replacedOf box.isHeard box.without box.acknowledgedOf box.isHigher box.swappedOf
-worked = hears (sends (makes (swaps runs-learnt 1) (day 1 0 0))) (step (day 1 0 0)) _ _ (given-it _ (day 1 0 0)) (inl (inr (inr (inr (inl refl)))))
+worked = hears (sends (makes (swaps runs-learnt 1) (day 1 0 0)) (day 1 0 0) (inl refl)) (step (day 1 0 0)) _ _ (given-it _ (day 1 0 0)) (inl (inr (inr (inr (inl refl)))))
 
 -- ---- what it comes to: the repeat and the frozen gauge's reading are not accepted, their counts are, and only what the gateway had heard left the outbox
 pub comes-to : (repeated .accepted ≡ day 0 0 50800 ∷ [])

@@ -95,9 +95,9 @@ module _ (cell : ℕ) (G : Gateway) where
         acks = s .acks;
       }
 
-  -- it sends what the outbox offers
-  abbrev pub sending : Moment G → Moment G
-  sending s =
+  -- it sends an entry
+  abbrev pub sending : Moment G → Entry → Moment G
+  sending s e =
       record {
         box = s .box;
         row = s .row;
@@ -105,7 +105,7 @@ module _ (cell : ℕ) (G : Gateway) where
         turned = s .turned;
         voids = s .voids;
         emptied = s .emptied;
-        sent = s .sent ++ brought (offerOf (s .box));
+        sent = s .sent ++ (e ∷ []);
         accepted = s .accepted;
         acks = s .acks;
       }
@@ -170,13 +170,13 @@ module _ (cell : ℕ) (G : Gateway) where
         acks = s .acks;
       }
 
-  -- the moments that can be reached, for any list of these events. The link loses, repeats and reorders: what arrives is any of what was sent before, at any time
+  -- the moments that can be reached, for any list of these events. The node sends any of what it holds, the oldest, which it offers, or others with it. The link loses, repeats and reorders: what arrives is any of what was sent before, at any time
   -- and any number of times, or never. It invents nothing: of this cell nothing else arrives. The row is cleared at the start only
   pub data Run : Moment G → Type 0 where
     starts : (g : G .State) → freshOf cell .number ≡ 0 → G .life g ≡ 0 → G .next g ≡ 0 → Run (first g)
     makes : {s : Moment G} → Run s → (e : Entry) → Run (making s e)
     puts-void : {s : Moment G} → Run s → Run (voiding s)
-    sends : {s : Moment G} → Run s → Run (sending s)
+    sends : {s : Moment G} → Run s → (e : Entry) → Among e (entriesIn (s .box)) → Run (sending s e)
     hears : {s : Moment G} → Run s → (c : G .Call) (taken : Bool) (h : G .State) → G .Gives (s .row) c taken h
         → Among (G .brings c) (s .sent) ⊎ ¬ (cellOf (G .brings c) ≡ cell) → Run (hearing s c taken h)
     answers : {s : Moment G} → Run s → Run (answering s)
