@@ -3,14 +3,20 @@
 
 mod branches;
 mod entries;
+mod forms;
 mod given;
 mod heads;
 mod journals;
 mod lent;
 mod lines;
 mod numbers;
+#[allow(dead_code)]
+#[path = "../node/outbox.rs"]
+mod outbox;
+mod outboxes;
 mod refusals;
 mod sheets;
+mod sides;
 mod steps;
 mod tally;
 mod texts;
@@ -43,6 +49,15 @@ const MUST: &[(&str, &[&str])] = &[
     ("answer lines", lines::ANSWERS),
     ("sheet lines", lines::SHEETS),
     ("journals", journals::JOURNALS),
+    ("fresh outboxes", sides::FRESH),
+    ("oldest entries offered", sides::OLDEST),
+    ("oldest entries replaced", sides::OLDEST),
+    ("entries added", sides::ADDED),
+    ("acknowledgements", sides::HEARD),
+    ("battery swaps", sides::SWAPS),
+    ("outboxes or entries out of shape", forms::SHAPES),
+    ("outboxes out of form", forms::FORMS),
+    ("runs of outboxes", outboxes::RUNS),
 ];
 
 /// What the comparison is asked to do.
@@ -72,7 +87,7 @@ fn dice_of(seed: u64, round: u64) -> Dice {
     Dice::new(stirred.roll().wrapping_add(round.wrapping_mul(0x9fb2_1c65_1e98_df25)))
 }
 
-/// One round: days, wild steps and voids, clearings, sheets, texts and journals; round 0 begins with the sweeps.
+/// One round: days, wild steps and voids, clearings, sheets, texts, journals, outboxes; round 0 begins with the sweeps.
 fn round(asked: &Asked, round: u64, tally: &mut Tally) -> Result<(), String> {
     let dice = &mut dice_of(asked.seed, round);
     if round == 0 {
@@ -103,7 +118,9 @@ fn round(asked: &Asked, round: u64, tally: &mut Tally) -> Result<(), String> {
         let place = u64::MAX / 2 + round;
         journals::by_program(dice, (asked.seed, place), &asked.program, tally)?;
     }
-    Ok(())
+    outboxes::wild_calls(dice, tally, 100)?;
+    let calls = 100 + dice.below(400);
+    outboxes::run(dice, tally, calls)
 }
 
 /// All rounds: the first difference, if there is one.

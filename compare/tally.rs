@@ -1,4 +1,4 @@
-//! How often each number, each branch of the rules and each class of head was met.
+//! How often each number, each branch of the rules, each class of head and each side of the outbox's calls was met.
 
 use std::collections::BTreeMap;
 
@@ -8,6 +8,7 @@ pub struct Tally {
     counts: BTreeMap<(&'static str, &'static str), u64>,
     numbers: BTreeMap<(&'static str, u32), u64>,
     pub steps: u64,
+    pub calls: u64,
     pub texts: u64,
     pub journals: u64,
     pub runs: u64,
@@ -26,9 +27,10 @@ impl Tally {
 
     /// Print all counts, a line per heading.
     pub fn print(&self) {
-        let Tally { steps, texts, journals, runs, .. } = self;
+        let Tally { steps, calls, texts, journals, runs, .. } = self;
         println!(
-            "compared: {steps} steps and voids, {texts} texts, {journals} journals, {runs} runs of waterbook"
+            "compared: {steps} steps and voids, {texts} texts, {journals} journals, {runs} runs of waterbook, \
+             {calls} calls on outboxes"
         );
         for call in CALLS {
             let met = self.numbers.iter().filter(|(key, _)| key.0 == call.0);
@@ -90,4 +92,10 @@ const CALLS: &[(&str, &[u32])] = &[
     ("write_sheet", &[0, 12, 255]),
     ("answer lines", &[0, 1, 2, 3, 4, 5, 6, 7, 8, 9, 10]),
     ("waterbook", &[0, 1, 3, 4, 6, 7, 8, 9, 10, 12]),
+    ("outbox_fresh", &[0, 14, 255]),
+    ("outbox_offer", &[0, 23, 254, 255]),
+    ("outbox_add", &[0, 13, 14, 23, 255]),
+    ("outbox_replace", &[0, 23, 254, 255]),
+    ("outbox_acknowledge", &[0, 23, 255]),
+    ("outbox_swap", &[0, 14, 23, 255]),
 ];

@@ -12,8 +12,9 @@ use Rattle.text.specs.declared.Written.{Written}
 use Rattle.text.specs.declared.card.CardRead.{CardRead}
 use Rattle.text.specs.Written.{Writes}
 use Rattle.text.specs.Printed.{lineChecks}
+use Rattle.shapes.specs.Shapes.{illShaped}
 use Rattle.gateway.specs.Shapes.{cardNumbers, amountNumbers, sheetNumbers}
-use Rattle.gateway.specs.Calls.{illShaped, GivesAnswer, GivesRows, GivesSheet, GivesCard, GivesLine, WritesText}
+use Rattle.gateway.specs.Calls.{GivesAnswer, GivesRows, GivesSheet, GivesCard, GivesLine, WritesText}
 
 -- ---- a step
 module _ {shaped : Bool} {answer : Answer} {after rows : List ℕ} {amounts : List ℤ} where

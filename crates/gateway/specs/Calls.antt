@@ -21,15 +21,8 @@ use Rattle.text.specs.Cards.{parse, cardResult, soilResult, cardText, cardCheck
 use Rattle.text.specs.Readings.{readReading, textOf, readingChecks}
 use Rattle.text.specs.Voids.{readVoid, voidText, voidChecks}
 use Rattle.text.specs.Printed.{lineText, sheetText, lineChecks}
-use Rattle.gateway.specs.Shapes.{cardWidth, cardFrom, cardNumbers, readingWidth, readingFrom, readingNumbers, noticeWidth, noticeFrom, noticeNumbers, amountsWidth, amountNumbers, amountsFrom, sheetWidth, sheetNumbers, sheetFrom, amountsRecharge, sheetRecharge, signsFrom, zeros}
-
--- the number of a call whose records are ill shaped
-abbrev pub illShaped : ℕ
-illShaped = 255
-
--- so many numbers
-abbrev pub wide : {A : Type 0} → List A → ℕ → Bool
-wide l n = eqb (length l) n
+use Rattle.shapes.specs.Shapes.{illShaped, wide, readingWidth, readingFrom, readingNumbers, noticeWidth, noticeFrom, noticeNumbers}
+use Rattle.gateway.specs.Shapes.{cardWidth, cardFrom, cardNumbers, amountsWidth, amountNumbers, amountsFrom, sheetWidth, sheetNumbers, sheetFrom, amountsRecharge, sheetRecharge, signsFrom, zeros}
 
 -- Of each call: what it gives, shaped or not; then when it is shaped, and what it comes to.
 

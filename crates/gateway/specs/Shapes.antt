@@ -8,16 +8,12 @@ use lib.ListN.{drop, getD}
 use mir.Syntax.{w64}
 use mir.Val.{SFits}
 use Rattle.form.specs.Signed.{isNeg}
-use Rattle.head.specs.Pattern.{patternOf, carriedOf}
 use Rattle.cell.specs.declared.Amounts.{Amounts}
 use Rattle.cell.specs.declared.Card.{Card}
 use Rattle.cell.specs.declared.Net.{Net}
-use Rattle.cell.specs.declared.Notice.{Notice}
-use Rattle.cell.specs.declared.Reading.{Reading}
 use Rattle.cell.specs.declared.Water.{Water}
 use Rattle.cell.specs.Water.{water, net}
 use Rattle.site.specs.declared.Sheet.{Sheet}
-use Rattle.text.specs.Readings.{carried}
 
 -- a card: cells, delays, 30 delay depths
 abbrev pub cardWidth : ℕ
@@ -28,40 +24,6 @@ cardFrom l = record { cells = getD l 0 0; delays = getD l 1 0; depths = drop 2 l
 
 unfoldable pub cardNumbers : Card → List ℕ
 cardNumbers c = c .cells ∷ c .delays ∷ c .depths
-
--- a reading: cell, life, count, rain, irrig, septic, etmin, pet, amc, and the head's 32 bits
-abbrev pub readingWidth : ℕ
-readingWidth = 10
-
-unfoldable pub readingFrom : List ℕ → Reading
-readingFrom l =
-    record {
-      cell = getD l 0 0;
-      life = getD l 1 0;
-      count = getD l 2 0;
-      rain = getD l 3 0;
-      irrig = getD l 4 0;
-      septic = getD l 5 0;
-      etmin = getD l 6 0;
-      pet = getD l 7 0;
-      amc = getD l 8 0;
-      head = carriedOf (getD l 9 0) .value;
-      nan = carriedOf (getD l 9 0) .nan;
-    }
-
-unfoldable pub readingNumbers : Reading → List ℕ
-readingNumbers r =
-    r .cell ∷ r .life ∷ r .count ∷ r .rain ∷ r .irrig ∷ r .septic ∷ r .etmin ∷ r .pet ∷ r .amc ∷ patternOf (carried r) ∷ []
-
--- [3] a notice: cell, life, count
-abbrev pub noticeWidth : ℕ
-noticeWidth = 3
-
-unfoldable pub noticeFrom : List ℕ → Notice
-noticeFrom l = record { cell = getD l 0 0; life = getD l 1 0; count = getD l 2 0 }
-
-unfoldable pub noticeNumbers : Notice → List ℕ
-noticeNumbers n = n .cell ∷ n .life ∷ n .count ∷ []
 
 -- the ten amounts: inflow, runoff, etvad, etstor, etsat, drain, release, stored, recharge, left
 abbrev pub amountsWidth : ℕ

@@ -8,7 +8,7 @@ use cell::Answer;
 use cell::Card;
 use cell::Entry;
 
-mod shapes;
+mod records;
 
 // One reading, given to the site.
 #[no_mangle]
@@ -31,7 +31,7 @@ pub extern "C" fn waterbook_step(
         return 255;
     }
     give(
-        shapes::card_from(card),
+        records::card_from(card),
         soil,
         rows,
         Entry::Reading(shapes::reading_from(reading)),
@@ -60,7 +60,7 @@ pub extern "C" fn waterbook_void(
         return 255;
     }
     give(
-        shapes::card_from(card),
+        records::card_from(card),
         soil,
         rows,
         Entry::Void(shapes::notice_from(notice)),
@@ -74,7 +74,7 @@ fn give(card: Card, soil: &[i64], rows: &mut [u32], e: Entry, amounts: &mut [i64
     ensures { λ n. ⌜ Enters true card (now (soil .entry)) (now (rows .entry)) e (now (amounts .entry)) n (now (rows .exit)) (now (amounts .exit)) ⌝ }
 {
     let answer = site::step(card, soil, rows, e);
-    shapes::put_amounts(cell::amounts_of(answer), amounts);
+    records::put_amounts(cell::amounts_of(answer), amounts);
     cell::number_of(answer)
 }
 
@@ -86,7 +86,7 @@ pub extern "C" fn waterbook_clear(card: &[u32], rows: &mut [u32]) -> u32
     if card.len() != 32 {
         return 255;
     }
-    site::clear(shapes::card_from(card), rows)
+    site::clear(records::card_from(card), rows)
 }
 
 // Adds an answer, its number and its amounts, to a sheet.
@@ -103,17 +103,17 @@ pub extern "C" fn waterbook_add(sheet: &mut [i64], number: u32, amounts: &[i64])
     if number != 0 {
         return 11;
     }
-    if !shapes::signs(sheet, 9) {
+    if !records::signs(sheet, 9) {
         return 11;
     }
-    if !shapes::signs(amounts, 8) {
+    if !records::signs(amounts, 8) {
         return 11;
     }
-    let added = shapes::sheet_from(sheet).add(Answer::Accepted(shapes::amounts_from(amounts)));
+    let added = records::sheet_from(sheet).add(Answer::Accepted(records::amounts_from(amounts)));
     if added.number != 0 {
         return added.number;
     }
-    shapes::put_sheet(added.sheet, sheet);
+    records::put_sheet(added.sheet, sheet);
     0
 }
 
@@ -134,7 +134,7 @@ pub extern "C" fn waterbook_read_card(
         return 255;
     }
     let r = text::card::read(text, soil);
-    shapes::put_card(r.card, card);
+    records::put_card(r.card, card);
     got[0] = r.taken;
     got[1] = r.line;
     r.number
@@ -156,7 +156,7 @@ pub extern "C" fn waterbook_write_card(
     if got.len() != 2 {
         return 255;
     }
-    let w = text::card::write(shapes::card_from(card), soil, buf);
+    let w = text::card::write(records::card_from(card), soil, buf);
     got[0] = w.len;
     got[1] = 0;
     w.number
@@ -249,12 +249,12 @@ pub extern "C" fn waterbook_write_answer(
     if got.len() != 2 {
         return 255;
     }
-    if !shapes::is_answer(number, amounts) {
+    if !records::is_answer(number, amounts) {
         got[0] = 0;
         got[1] = 0;
         return 12;
     }
-    let w = text::print::line(cell, number, shapes::amounts_from(amounts), buf);
+    let w = text::print::line(cell, number, records::amounts_from(amounts), buf);
     got[0] = w.len;
     got[1] = 0;
     w.number
@@ -271,12 +271,12 @@ pub extern "C" fn waterbook_write_sheet(sheet: &[i64], buf: &mut [u8], got: &mut
     if got.len() != 2 {
         return 255;
     }
-    if !shapes::signs(sheet, 9) {
+    if !records::signs(sheet, 9) {
         got[0] = 0;
         got[1] = 0;
         return 12;
     }
-    let w = text::print::sheet(shapes::sheet_from(sheet), buf);
+    let w = text::print::sheet(records::sheet_from(sheet), buf);
     got[0] = w.len;
     got[1] = 0;
     w.number

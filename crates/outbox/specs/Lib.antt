@@ -5,5 +5,6 @@ pub mod CallLaws
 pub mod Counts
 pub mod Kept
 pub mod Back
+pub mod Each
 -- what the laws and the code's own contracts lean on
 pub mod Laws

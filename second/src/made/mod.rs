@@ -4,6 +4,7 @@ pub mod damage;
 pub mod dice;
 pub mod entries;
 pub mod measure;
+pub mod outboxes;
 pub mod readings;
 pub mod site;
 pub mod wet;

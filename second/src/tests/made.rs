@@ -1,11 +1,12 @@
-//! Made journals: the same each time, every reachable number met, and water kept.
+//! Made journals: the same each time, every reachable number met, and water kept. Made outboxes.
 
 use crate::journal::waterbook;
 use crate::made::dice::Dice;
 use crate::made::entries::made_entry;
 use crate::made::site::Site;
-use crate::made::{journal, journal_of_kind};
+use crate::made::{journal, journal_of_kind, outboxes};
 use crate::numbers::{row_in_range, Amounts, Entry, Reading, ROW};
+use crate::outbox::{Outbox, BOX};
 use crate::step::enter;
 use std::collections::BTreeMap;
 
@@ -107,4 +108,21 @@ fn water_is_kept_over_made_runs() {
         }
     }
     assert!(readings > 10_000 && voids > 1000, "{readings} readings, {voids} voids");
+}
+
+#[test]
+fn made_outboxes() {
+    let dice = &mut Dice::new(31);
+    let (mut held, mut damaged, mut other_widths) = ([0; 31], 0, 0);
+    for _ in 0..5000 {
+        let outbox = outboxes::made(dice);
+        assert!(outbox.in_form(), "{outbox:?}");
+        held[outbox.unheard.len()] += 1;
+        let (_, numbers) = outboxes::lent_box(dice);
+        let in_form = Outbox::read(&numbers).is_ok_and(|outbox| outbox.in_form());
+        other_widths += u32::from(numbers.len() != BOX);
+        damaged += u32::from(numbers.len() == BOX && !in_form);
+    }
+    assert!(held.iter().all(|times| *times > 20), "{held:?}");
+    assert!(damaged > 1000 && other_widths > 100, "{damaged} {other_widths}");
 }

@@ -1,9 +1,11 @@
-//! The page's own cases, each refusal number, voids, texts, books and made journals.
+//! The page's own cases, each refusal number, voids, texts, books, made journals and the outbox.
 
 mod book;
 mod edges;
 mod heads;
+mod link;
 mod made;
+mod outbox;
 mod refusals;
 mod sheets;
 mod texts;

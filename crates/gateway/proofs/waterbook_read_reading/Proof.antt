@@ -6,7 +6,7 @@ use lib.ListN.{length-set}
 use borrow.Author.Tests.{eq-eqb, ne-eqb}
 use mathlib.Core.Path.{sym, ap, _∙_}
 use Rattle.text.specs.declared.reading.ReadingRead.{ReadingRead}
-use Rattle.gateway.specs.Shapes.{readingNumbers}
+use Rattle.shapes.specs.Shapes.{readingNumbers}
 use native.Mathlib.Omega.{arith}
 use borrow.Author.Needs.{needs}
 use Rattle.gateway.proofs.waterbook_read_reading.Statement.{statement}

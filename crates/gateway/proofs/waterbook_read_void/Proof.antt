@@ -6,7 +6,7 @@ use lib.ListN.{length-set}
 use borrow.Author.Tests.{eq-eqb, ne-eqb}
 use mathlib.Core.Path.{sym, ap, _∙_}
 use Rattle.text.specs.declared.void.VoidRead.{VoidRead}
-use Rattle.gateway.specs.Shapes.{noticeNumbers}
+use Rattle.shapes.specs.Shapes.{noticeNumbers}
 use native.Mathlib.Omega.{arith}
 use borrow.Author.Needs.{needs}
 use Rattle.gateway.proofs.waterbook_read_void.Statement.{statement}

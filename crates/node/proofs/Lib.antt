@@ -1,0 +1,4 @@
+-- What the proofs share, and that each contract settles its function.
+pub mod Turns
+pub mod Shaped
+pub mod Settled

@@ -1,0 +1,2 @@
+-- That each contract settles its function.
+pub mod Settled
