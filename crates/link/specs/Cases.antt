@@ -86,9 +86,15 @@ voided = making 0 G (hear (sending 0 G replaced (voidOf (day 0 1 1000001))) (voi
 abbrev pub learnt : Moment G
 learnt = learning 0 G (answering 0 G voided) (record { life = 0; next = 2; heard = day 0 0 50800 ∷ voidOf (day 0 1 1000001) ∷ [] })
 
--- a swap empties the outbox, and a reading of the new life is heard
+-- a swap empties the outbox. Of the new life two readings are made, sent and heard, and one acknowledgement tells of both
 abbrev pub swapped : Moment G
-swapped = hear (sending 0 G (making 0 G (swapping 0 G learnt 1) (day 1 0 0)) (day 1 0 0)) (day 1 0 0)
+swapped = making 0 G (making 0 G (swapping 0 G learnt 1) (day 1 0 0)) (day 1 1 700)
+
+abbrev pub both : Moment G
+both = hear (hear (sending 0 G (sending 0 G swapped (day 1 0 0)) (day 1 1 700)) (day 1 0 0)) (day 1 1 700)
+
+abbrev pub ended : Moment G
+ended = learning 0 G (answering 0 G both) (record { life = 1; next = 2; heard = day 0 0 50800 ∷ voidOf (day 0 1 1000001) ∷ day 1 0 0 ∷ day 1 1 700 ∷ [] })
 
 -- ---- each event is one that may happen
 runs-repeated : Run 0 G repeated
@@ -111,9 +117,15 @@ runs-learnt : Run 0 G learnt
 unfolding card soil cleared takes floorDiv usable floorUm levelUm classOf carriedOf patternOf isNan nanBits ofBits toBits sided depthOf distance slot total shifted taken spared joined countsOk noneOf risingFrom depthsOk cardOk within soilOk soilOf lifeOf nextOf slotsOf queueOf slotsOk rowOk noticeOk fieldsOk isOld isGap sounded unless fieldsVerdict verdictOf curveOf stormOf reachOf delayOf shallowOf runoffOf lackOf fadingOf etsatOf drainOf storedOf directOf rechargeOf given release curve storm delay runoff etvad lack draws etstor etsat drain sunk stored direct recharge queueAfter stepAmounts shiftAmounts amountsBy queueBy rowAfter judged answerOf newRow partAt putAt soilFits rowsFit cellFits refuse siteAnswer rowsBy siteRows box.same box.isZero box.padded box.heldOf box.boxOf box.numbersOk box.inTurn box.allSpare box.formOk box.unless box.freshOf box.oldest box.offerOf box.isNext box.withEntry box.addedOf box.replacing box.replacedOf box.isHeard box.without box.acknowledgedOf box.isHigher box.swappedOf
 runs-learnt = learns (answers runs-voided) (record { life = 0; next = 2; heard = day 0 0 50800 ∷ voidOf (day 0 1 1000001) ∷ [] }) (inr (inl refl))
 
-pub worked : Run 0 G swapped
+runs-both : Run 0 G both
 unfolding card soil cleared takes floorDiv usable floorUm levelUm classOf carriedOf patternOf isNan nanBits ofBits toBits sided depthOf distance slot total shifted taken spared joined countsOk noneOf risingFrom depthsOk cardOk within soilOk soilOf lifeOf nextOf slotsOf queueOf slotsOk rowOk noticeOk fieldsOk isOld isGap sounded unless fieldsVerdict verdictOf curveOf stormOf reachOf delayOf shallowOf runoffOf lackOf fadingOf etsatOf drainOf storedOf directOf rechargeOf given release curve storm delay runoff etvad lack draws etstor etsat drain sunk stored direct recharge queueAfter stepAmounts shiftAmounts amountsBy queueBy rowAfter judged answerOf newRow partAt putAt soilFits rowsFit cellFits refuse siteAnswer rowsBy siteRows box.same box.isZero box.padded box.heldOf box.boxOf box.numbersOk box.inTurn box.allSpare box.formOk box.unless box.freshOf box.oldest box.offerOf box.isNext box.withEntry box.addedOf box.replacing box.replacedOf box.isHeard box.without box.acknowledgedOf box.isHigher box.swappedOf
-worked = hears (sends (makes (swaps runs-learnt 1) (day 1 0 0)) (day 1 0 0) (inl refl)) (step (day 1 0 0)) _ _ (given-it _ (day 1 0 0)) (inl (inr (inr (inr (inl refl)))))
+runs-both =
+    let s : Run 0 G (sending 0 G (sending 0 G swapped (day 1 0 0)) (day 1 1 700)) = sends (sends (makes (makes (swaps runs-learnt 1) (day 1 0 0)) (day 1 1 700)) (day 1 0 0) (inl refl)) (day 1 1 700) (inr (inl refl)) in
+    hears (hears s (step (day 1 0 0)) _ _ (given-it _ (day 1 0 0)) (inl (inr (inr (inr (inl refl)))))) (step (day 1 1 700)) _ _ (given-it _ (day 1 1 700)) (inl (inr (inr (inr (inr (inl refl))))))
+
+pub worked : Run 0 G ended
+unfolding card soil cleared takes floorDiv usable floorUm levelUm classOf carriedOf patternOf isNan nanBits ofBits toBits sided depthOf distance slot total shifted taken spared joined countsOk noneOf risingFrom depthsOk cardOk within soilOk soilOf lifeOf nextOf slotsOf queueOf slotsOk rowOk noticeOk fieldsOk isOld isGap sounded unless fieldsVerdict verdictOf curveOf stormOf reachOf delayOf shallowOf runoffOf lackOf fadingOf etsatOf drainOf storedOf directOf rechargeOf given release curve storm delay runoff etvad lack draws etstor etsat drain sunk stored direct recharge queueAfter stepAmounts shiftAmounts amountsBy queueBy rowAfter judged answerOf newRow partAt putAt soilFits rowsFit cellFits refuse siteAnswer rowsBy siteRows box.same box.isZero box.padded box.heldOf box.boxOf box.numbersOk box.inTurn box.allSpare box.formOk box.unless box.freshOf box.oldest box.offerOf box.isNext box.withEntry box.addedOf box.replacing box.replacedOf box.isHeard box.without box.acknowledgedOf box.isHigher box.swappedOf
+worked = learns (answers runs-both) (record { life = 1; next = 2; heard = day 0 0 50800 ∷ voidOf (day 0 1 1000001) ∷ day 1 0 0 ∷ day 1 1 700 ∷ [] }) (inr (inr (inl refl)))
 
 -- ---- what it comes to: the repeat and the frozen gauge's reading are not accepted, their counts are, and only what the gateway had heard left the outbox
 pub comes-to : (repeated .accepted ≡ day 0 0 50800 ∷ [])
@@ -122,8 +134,9 @@ pub comes-to : (repeated .accepted ≡ day 0 0 50800 ∷ [])
     × (voided .accepted ≡ day 0 0 50800 ∷ voidOf (day 0 1 1000001) ∷ [])
     × (entriesIn (voided .box) ≡ voidOf (day 0 1 1000001) ∷ day 0 2 0 ∷ [])
     × (entriesIn (learnt .box) ≡ day 0 2 0 ∷ [])
-    × (swapped .emptied ≡ day 0 2 0 ∷ [])
-    × (swapped .accepted ≡ day 0 0 50800 ∷ voidOf (day 0 1 1000001) ∷ day 1 0 0 ∷ [])
-    × (entriesIn (swapped .box) ≡ day 1 0 0 ∷ [])
+    × (ended .emptied ≡ day 0 2 0 ∷ [])
+    × (ended .accepted ≡ day 0 0 50800 ∷ voidOf (day 0 1 1000001) ∷ day 1 0 0 ∷ day 1 1 700 ∷ [])
+    × (entriesIn (both .box) ≡ day 1 0 0 ∷ day 1 1 700 ∷ [])
+    × (entriesIn (ended .box) ≡ [])
 unfolding card soil cleared takes floorDiv usable floorUm levelUm classOf carriedOf patternOf isNan nanBits ofBits toBits sided depthOf distance slot total shifted taken spared joined countsOk noneOf risingFrom depthsOk cardOk within soilOk soilOf lifeOf nextOf slotsOf queueOf slotsOk rowOk noticeOk fieldsOk isOld isGap sounded unless fieldsVerdict verdictOf curveOf stormOf reachOf delayOf shallowOf runoffOf lackOf fadingOf etsatOf drainOf storedOf directOf rechargeOf given release curve storm delay runoff etvad lack draws etstor etsat drain sunk stored direct recharge queueAfter stepAmounts shiftAmounts amountsBy queueBy rowAfter judged answerOf newRow partAt putAt soilFits rowsFit cellFits refuse siteAnswer rowsBy siteRows box.same box.isZero box.padded box.heldOf box.boxOf box.numbersOk box.inTurn box.allSpare box.formOk box.unless box.freshOf box.oldest box.offerOf box.isNext box.withEntry box.addedOf box.replacing box.replacedOf box.isHeard box.without box.acknowledgedOf box.isHigher box.swappedOf
-comes-to = (refl, refl, refl, refl, refl, refl, refl, refl, refl)
+comes-to = (refl, refl, refl, refl, refl, refl, refl, refl, refl, refl)
