@@ -40,14 +40,14 @@ dryDay etmin =
 -- what a case gives, and what must come
 pub data Case : Type 0 where
   curve-number : (cn amc c : ℕ) → Case
-  storm-runoff : (c rain q : ℕ) → Case
+  storm-runoff : (r c rain q : ℕ) → Case
   runs-off : (g q k vadpor : ℕ) (d : Depth) (r : ℕ) → Case
   height : (bits : ℕ) (um : ℤ) → Case
   dry-day : (etmin : ℕ) (slots : List ℕ) (out : ℕ) (after : List ℕ) → Case
 
 abbrev pub Says : Case → Type 0
 Says (curve-number cn amc c) = curveOf cn amc ≡ c
-Says (storm-runoff c rain q) = stormOf c rain ≡ q
+Says (storm-runoff r c rain q) = stormOf r c rain ≡ q
 Says (runs-off g q k v d r) = runoffOf g q k v d ≡ r
 Says (height bits um) = levelUm (ofBits binary32 bits) ≡ um
 -- whatever the card, the soil and the depth d > 0
@@ -56,7 +56,7 @@ Says (dry-day etmin slots out after) = (card : Card) (soil : Soil) (n : ℕ) →
 
 test : Case → Bool
 test (curve-number cn amc c) = eqb (curveOf cn amc) c
-test (storm-runoff c rain q) = eqb (stormOf c rain) q
+test (storm-runoff r c rain q) = eqb (stormOf r c rain) q
 test (runs-off g q k v d r) = eqb (runoffOf g q k v d) r
 test (height bits um) = eqZ (levelUm (ofBits binary32 bits)) um
 test (dry-day etmin slots out after) = eqNL (slot slots 1, spared etmin (shifted slots)) (out, after)
@@ -87,7 +87,7 @@ dry-after card soil etmin n q = rw (nothing-stored card soil etmin n, all-lackin
 says : (x : Case) → T (test x) → Says x
 unfolding test release
 says (curve-number cn amc c) t = eqb→eq (curveOf cn amc) c t
-says (storm-runoff c rain q) t = eqb→eq (stormOf c rain) q t
+says (storm-runoff r c rain q) t = eqb→eq (stormOf r c rain) q t
 says (runs-off g q k v d r) t = eqb→eq (runoffOf g q k v d) r t
 says (height bits um) t = eqZ→eq (levelUm (ofBits binary32 bits)) um t
 says (dry-day etmin slots out after) t =
@@ -97,10 +97,14 @@ says (dry-day etmin slots out after) t =
 abbrev pub cases : List Case
 cases =
     -- c = 80: rain 12,952 gives q 0; 12,953 gives 1; 50,800 gives 14,287. c = 100, rain 0: q 0
-    storm-runoff 80 12952 0
-    ∷ storm-runoff 80 12953 1
-    ∷ storm-runoff 80 50800 14287
-    ∷ storm-runoff 100 0 0
+    storm-runoff 20 80 12952 0
+    ∷ storm-runoff 20 80 12953 1
+    ∷ storm-runoff 20 80 50800 14287
+    ∷ storm-runoff 20 100 0 0
+    -- [5] with a share of 5: rain 3,427 gives q 0; 3,428 gives 1; 50,800 gives 20,410
+    ∷ storm-runoff 5 80 3427 0
+    ∷ storm-runoff 5 80 3428 1
+    ∷ storm-runoff 5 80 50800 20410
     -- [1] cn 80: 63, 80, 91 for amc 1, 2, 3. cn 1: 1, 1, 3. Wet ground at 75: 88
     ∷ curve-number 80 1 63
     ∷ curve-number 80 2 80
@@ -122,6 +126,6 @@ cases =
     ∷ dry-day 2000 (100 ∷ 700 ∷ 5000 ∷ []) 100 (0 ∷ 3700 ∷ 0 ∷ [])
     ∷ []
 
-pub starred : (k : ℕ) → k < length cases → Says (getD cases k (storm-runoff 0 0 0))
+pub starred : (k : ℕ) → k < length cases → Says (getD cases k (storm-runoff 0 0 0 0))
 unfolding test dryGround wetGround lineOf curveOf stormOf shallowOf runoffOf levelUm ofBits slot shifted spared
-starred k h = says (getD cases k (storm-runoff 0 0 0)) (at test (storm-runoff 0 0 0) cases tt k h)
+starred k h = says (getD cases k (storm-runoff 0 0 0 0)) (at test (storm-runoff 0 0 0 0) cases tt k h)

@@ -88,6 +88,7 @@ checked card soil row e d p =
     let f = fields-in r (g .0) in
     record {
       delays = c .delays;
+      share = c .share-high;
       etdepth = s .etdepth;
       vadpor = s .vadpor;
       leak = s .leak;

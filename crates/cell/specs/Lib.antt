@@ -18,6 +18,8 @@ pub mod AnswerLaws
 pub mod StillLaws
 -- [2] the search that was retired
 pub mod ShallowFirst
+-- [5] the one share that there was
+pub mod OneShare
 -- what the laws and the code's own contracts lean on
 pub mod Parts
 pub mod Still

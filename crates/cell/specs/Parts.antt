@@ -20,6 +20,7 @@ use Rattle.cell.specs.Step.{delay, runoff, etvad, lack, sunk}
 -- ---- the ranges that the checks have shown
 pub record Checked (card : Card) (soil : Soil) (r : Reading) (d : Depth) : Type 0 where
   pub delays : card .delays ≤ 30
+  pub share : card .share ≤ 20
   pub etdepth : soil .etdepth ≤ 100000000
   pub vadpor : soil .vadpor ≤ 1000
   pub leak : soil .leak ≤ 1000000

@@ -14,7 +14,7 @@ use native.Mathlib.Omega.{arith}
 use Rattle.cell.specs.declared.Card.{Card}
 use Rattle.cell.specs.declared.Notice.{Notice}
 use Rattle.cell.specs.declared.Reading.{Reading}
-use Rattle.cell.specs.Ranges.{countsOk, noneOf, risingFrom, cardOk, depthsOk, within, soilOk, soilOf, lifeOf, nextOf, slotsOf, queueOf, slotsOk, rowOk, noticeOk, fieldsOk}
+use Rattle.cell.specs.Ranges.{countsOk, noneOf, risingFrom, shareOk, cardOk, depthsOk, within, soilOk, soilOf, lifeOf, nextOf, slotsOf, queueOf, slotsOk, rowOk, noticeOk, fieldsOk}
 use Rattle.cell.specs.Conj.{told}
 use Rattle.cell.specs.QueueLaws.{SlotsIn, slots-in, slots-ok, first-zeros}
 
@@ -24,12 +24,15 @@ pub record CardIn (card : Card) : Type 0 where
   pub cells-high : card .cells ≤ 256
   pub delays : card .delays ≤ 30
   pub depths : depthsOk (card .delays) (card .depths) ≡ true
+  pub share-low : 5 ≤ card .share
+  pub share-high : card .share ≤ 20
 
 pub card-in : (card : Card) → cardOk card ≡ true → CardIn card
-unfolding countsOk cardOk
+unfolding countsOk shareOk cardOk
 card-in card e =
-    let p = told (leb 1 (card .cells)) (leb (card .cells) 256 ∷ leb (card .delays) 30 ∷ depthsOk (card .delays) (card .depths) ∷ []) e in
-    record { cells-low = leb-true _ _ (p 0); cells-high = leb-true _ _ (p 1); delays = leb-true _ _ (p 2); depths = p 3 }
+    let p = told (leb 1 (card .cells)) (leb (card .cells) 256 ∷ leb (card .delays) 30 ∷ depthsOk (card .delays) (card .depths) ∷ shareOk (card .share) ∷ []) e in
+    let s = told (leb 5 (card .share)) (leb (card .share) 20 ∷ []) (p 4) in
+    record { cells-low = leb-true _ _ (p 0); cells-high = leb-true _ _ (p 1); delays = leb-true _ _ (p 2); depths = p 3; share-low = leb-true _ _ (s 0); share-high = leb-true _ _ (s 1) }
 
 -- each depth in use is at least 1, so that none is <= d where d <= 0
 above-before : (before : ℕ) (ds : List ℕ) → risingFrom before ds ≡ true → (k : ℕ) → k < length ds → before < getD ds k 0

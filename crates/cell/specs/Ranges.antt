@@ -31,8 +31,12 @@ risingFrom before (d ∷ ds) = (ltb before d && leb d 1000000000) && risingFrom 
 unfoldable pub depthsOk : ℕ → List ℕ → Bool
 depthsOk m ds = eqb (length ds) 30 && (risingFrom 0 (take m ds) && noneOf (drop m ds))
 
+-- [5] the share of storage that the first wetting takes: whole percent, 5..20
+unfoldable pub shareOk : ℕ → Bool
+shareOk share = leb 5 share && leb share 20
+
 unfoldable pub cardOk : Card → Bool
-cardOk card = countsOk (card .cells) (card .delays) && depthsOk (card .delays) (card .depths)
+cardOk card = countsOk (card .cells) (card .delays) && depthsOk (card .delays) (card .depths) && shareOk (card .share)
 
 -- ---- the soil numbers, five of them: top, etdepth, vadpor, leak, cn
 unfoldable pub within : ℤ → ℤ → ℤ → Bool

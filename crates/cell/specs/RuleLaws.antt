@@ -85,22 +85,22 @@ pub dry-normal-wet : (cn : ℕ) → 1 ≤ cn → cn ≤ 100 → (curveOf cn 1 �
 unfolding curveOf
 dry-normal-wet cn l h = let b = lines-around cn h in (omega arith, omega arith, omega arith)
 
--- ---- 3. no more runs off than rains
-pub storm-le : (c rain : ℕ) → stormOf c rain ≤ rain
+-- ---- 3. [5] no more runs off than rains, for every share, curve number and rain: X is at most c x rain, and c x rain is at most Y
+pub storm-le : (r c rain : ℕ) → stormOf r c rain ≤ rain
 unfolding stormOf
-storm-le c rain =
-    either (λ n. n ≤ rain) (leb (c * rain) (50800 * (100 - c))) (λ e. omega arith)
+storm-le r c rain =
+    either (λ n. n ≤ rain) (leb (c * rain) (2540 * r * (100 - c))) (λ e. omega arith)
     (λ e. div-le-of-le-mul (c * y) (le-trans (mul-le-mul {n₂ = c * rain} {m₂ = y} (omega arith) (omega arith)) (le-of-eq turn)))
   where
     y : ℕ
-    y = c * rain + 203200 * (100 - c)
+    y = c * rain + 2540 * (100 - r) * (100 - c)
 
     turn : c * rain * y ≡ c * y * rain
     turn = omega arith
 
 -- and nothing runs off where nothing rains
-pub storm-dry : (c rain : ℕ) → rain ≡ 0 → 0 ≡ stormOf c rain
-storm-dry c rain e = omega (arith, storm-le c rain)
+pub storm-dry : (r c rain : ℕ) → rain ≡ 0 → 0 ≡ stormOf r c rain
+storm-dry r c rain e = omega (arith, storm-le r c rain)
 
 -- ---- 4. the delay is one of the m; where it is one, its depth is at most n; and each deeper one's is not: it is the largest
 pub reach-le : (ds : List ℕ) (m n : ℕ) → reachOf ds m n ≤ m

@@ -34,12 +34,12 @@ curveOf cn amc =
     (cond (eqb amc 3) (lineOf wetGround cn)
     cn))
 
--- 3. storm runoff: X = c x rain - 50,800 (100 - c), Y = c x rain + 203,200 (100 - c); 0 if X <= 0, else X x X / (c x Y)
-unfoldable pub stormOf : ℕ → ℕ → ℕ
-stormOf c rain =
-    let x : ℕ = c * rain - 50800 * (100 - c) in
-    let y : ℕ = c * rain + 203200 * (100 - c) in
-    cond (leb (c * rain) (50800 * (100 - c))) 0 (x * x / (c * y))
+-- 3. [5] storm runoff, with the share r: X = c x rain - 2,540 x r x (100 - c), Y = c x rain + 2,540 x (100 - r) x (100 - c); 0 if X <= 0, else X x X / (c x Y)
+unfoldable pub stormOf : ℕ → ℕ → ℕ → ℕ
+stormOf r c rain =
+    let x : ℕ = c * rain - 2540 * r * (100 - c) in
+    let y : ℕ = c * rain + 2540 * (100 - r) * (100 - c) in
+    cond (leb (c * rain) (2540 * r * (100 - c))) 0 (x * x / (c * y))
 
 -- 4. delay: the largest k <= m whose delay depth is <= n; 0 if none
 unfoldable pub reachOf : List ℕ → ℕ → ℕ → ℕ

@@ -37,7 +37,7 @@ module _ (card : Card) (soil : Soil) (r : Reading) (d : Depth) where
 
   -- 3
   unfoldable pub storm : ℕ
-  storm = stormOf curve (r .rain)
+  storm = stormOf (card .share) curve (r .rain)
 
   -- 4
   unfoldable pub delay : ℕ

@@ -122,31 +122,32 @@ pub fn curve(cn: u64, amc: u32) -> u64
     }
 }
 
-pub fn storm(c: u64, rain: Water) -> Water
-    requires { ⌜ (1 ≤ c) × (c ≤ 100) × (rain .0 ≤ 1000000) ⌝ }
-    ensures { λ r. ⌜ r .0 ≡ stormOf c (rain .0) ⌝ }
+// [5] With the share of the first wetting.
+pub fn storm(share: u64, c: u64, rain: Water) -> Water
+    requires { ⌜ (share ≤ 20) × (1 ≤ c) × (c ≤ 100) × (rain .0 ≤ 1000000) ⌝ }
+    ensures { λ r. ⌜ r .0 ≡ stormOf share c (rain .0) ⌝ }
     ensures { λ r. ⌜ r .0 ≤ rain .0 ⌝ }
 {
     let p = c * rain.0;
-    let s = 50800 * (100 - c);
+    let s = 2540 * share * (100 - c);
     if p <= s {
         return Water(0);
     }
     let x = p - s;
-    let y = p + 203200 * (100 - c);
+    let y = p + 2540 * (100 - share) * (100 - c);
     Water(x * x / (c * y))
 }
 
 // The storm runoff on this ground, which need not be looked at on a day without rain.
-pub fn storm_on(cn: u64, amc: u32, rain: Water) -> Water
-    requires { ⌜ (1 ≤ cn) × (cn ≤ 100) × (rain .0 ≤ 1000000) ⌝ }
-    ensures { λ r. ⌜ r .0 ≡ stormOf (curveOf cn amc) (rain .0) ⌝ }
+pub fn storm_on(share: u64, cn: u64, amc: u32, rain: Water) -> Water
+    requires { ⌜ (share ≤ 20) × (1 ≤ cn) × (cn ≤ 100) × (rain .0 ≤ 1000000) ⌝ }
+    ensures { λ r. ⌜ r .0 ≡ stormOf share (curveOf cn amc) (rain .0) ⌝ }
     ensures { λ r. ⌜ r .0 ≤ rain .0 ⌝ }
 {
     if rain.0 == 0 {
         return Water(0);
     }
-    storm(curve(cn, amc), rain)
+    storm(share, curve(cn, amc), rain)
 }
 
 // The largest k ≤ m whose delay depth is at most n, or 0: looked for from the deepest, up to the first that is.

@@ -44,7 +44,7 @@ fn wet(card: Card, soil: Soil, r: Reading, d: Depth) -> Wetting
     let irrig = Water(r.irrig as u64);
     let etmin = Water(r.etmin as u64);
     let g = Water(rain.0 + irrig.0);
-    let q = rules::storm_on(soil.cn, r.amc, rain);
+    let q = rules::storm_on(card.share as u64, soil.cn, r.amc, rain);
     let k = rules::delay(card, d);
     let runoff = rules::runoff(g, q, k, soil.vadpor, d);
     let etvad = rules::etvad(g, runoff, Water(r.pet as u64), etmin, irrig);

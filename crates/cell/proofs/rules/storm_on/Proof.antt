@@ -7,7 +7,7 @@ use Rattle.cell.proofs.rules.storm_on.Statement.{statement}
 use Rattle.cell.proofs.rules.storm_on.Tie as tie
 
 returns : tie.Need-returns
-returns c = let a = c .before .before .args in (storm-dry (curveOf (a .cn) (a .amc)) (a .rain .0) (c .if1 .taken), omega arith)
+returns c = let a = c .before .before .args in (storm-dry (a .share) (curveOf (a .cn) (a .amc)) (a .rain .0) (c .if1 .taken), omega arith)
 
 curve-requires : tie.Need-curve-requires
 curve-requires c κs = search needs

@@ -16,23 +16,26 @@ use Rattle.cell.proofs.step.wet.Tie as tie
 
 -- the calls' results, put together
 module _ (card : Card) (soil : Soil) (r : Reading) (d : Depth) where
-  whole : {q k o e l : ℕ} → q ≡ stormOf (curveOf (soil .cn) (r .amc)) (r .rain) → k ≡ delayOf (card .depths) (card .delays) d
+  whole : {q k o e l : ℕ} → q ≡ stormOf (card .share) (curveOf (soil .cn) (r .amc)) (r .rain) → k ≡ delayOf (card .depths) (card .delays) d
       → o ≡ runoffOf (r .rain + r .irrig) q k (soil .vadpor) d → e ≡ etvadOf (r .rain + r .irrig) o (r .pet) (r .etmin) (r .irrig) → l ≡ lackOf e (r .etmin) d
       → _≡_ {A = Wetting} (record { delay = k; runoff = water o; etvad = water e; lack = water l; sunk = water (r .rain + r .irrig - o - e) }) (wettingOf card soil r d)
   unfolding given curve storm delay runoff etvad lack sunk wettingOf
   whole hq hk ho he hl = cc
 
-cast-t13 : tie.Need-cast-t13
-cast-t13 c = search needs
+cast-storm-on : tie.Need-cast-storm-on
+cast-storm-on c = search needs
 
-cast-t13-2 : tie.Need-cast-t13-2
-cast-t13-2 c = search needs
+cast-storm-on-2 : tie.Need-cast-storm-on-2
+cast-storm-on-2 c = search needs
 
-cast-t13-3 : tie.Need-cast-t13-3
-cast-t13-3 c = search needs
+cast-storm-on-3 : tie.Need-cast-storm-on-3
+cast-storm-on-3 c = search needs
 
-add-t13 : tie.Need-add-t13
-add-t13 c = search needs
+add-storm-on : tie.Need-add-storm-on
+add-storm-on c = search needs
+
+cast-storm-on-4 : tie.Need-cast-storm-on-4
+cast-storm-on-4 c = search needs
 
 storm-on-requires : tie.Need-storm-on-requires
 storm-on-requires c κs = search needs
@@ -43,8 +46,8 @@ delay-requires c κs = search needs
 runoff-requires : tie.Need-runoff-requires
 runoff-requires c κs = search needs
 
-cast-t13-4 : tie.Need-cast-t13-4
-cast-t13-4 c = search needs
+cast-t13 : tie.Need-cast-t13
+cast-t13 c = search needs
 
 etvad-requires : tie.Need-etvad-requires
 etvad-requires c κs = search needs
@@ -60,7 +63,7 @@ sub-t15 c = search needs
 
 returns : tie.Need-returns
 returns c =
-    let a = c .before .before .before .before .before .before .before .before .before .before .before .before .before .before .args in
+    let a = c .before .before .before .before .before .before .before .before .before .before .before .before .before .before .before .args in
     whole (a .card) (a .soil) (a .r) (a .d) (c .before .before .before .before .before .before .before .before .storm-on .ensures .0) (c .before .before .before .before .before .before .before .delay .ensures .0)
     (c .before .before .before .before .before .before .runoff .ensures .0) (c .before .before .before .before .etvad .ensures .0) (c .before .before .before .lack .ensures .0)
 
@@ -68,14 +71,15 @@ pub wet-spec : {M : Type 1} → statement M
 wet-spec =
     tie.close
     (tie.spec
-    cast-t13
-    cast-t13-2
-    cast-t13-3
-    add-t13
+    cast-storm-on
+    cast-storm-on-2
+    cast-storm-on-3
+    add-storm-on
+    cast-storm-on-4
     storm-on-requires
     delay-requires
     runoff-requires
-    cast-t13-4
+    cast-t13
     etvad-requires
     lack-requires
     sub-t13
