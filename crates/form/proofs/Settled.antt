@@ -1,5 +1,5 @@
 -- Two results that meet a contract, as the check itself reads it, are equal, and so are two exits of each slice that is written. Assumes nothing.
--- a holds the arguments, and x, x' the parameters at exit, in the order of the signature: `vals` is the fourth of `read_form` and the sixth of `read_many`, `buf` the fourth of `put_form` and the sixth of `put_many`.
+-- a holds the arguments, and x, x' the parameters at exit, in the order of the signature: `vals` is the fourth of `read_form` and the sixth of `read_many`, `buf` the fourth of `put_form` and `put_key` and the sixth of `put_many`.
 use mathlib.Core.Path.{_≡_, sym, _∙_}
 use contract.Lifetimes.{Lfts}
 use denote.Ref.{now}
@@ -19,6 +19,12 @@ use Rattle.form.proofs.line.form_len.Kinds as form-len
 use Rattle.form.proofs.line.form_len.Reads as form-len-reads
 use Rattle.form.proofs.line.put_form.Kinds as put-form
 use Rattle.form.proofs.line.put_form.Reads as put-form-reads
+use Rattle.form.proofs.keys.read_key.Kinds as read-key
+use Rattle.form.proofs.keys.read_key.Reads as read-key-reads
+use Rattle.form.proofs.keys.key_len.Kinds as key-len
+use Rattle.form.proofs.keys.key_len.Reads as key-len-reads
+use Rattle.form.proofs.keys.put_key.Kinds as put-key
+use Rattle.form.proofs.keys.put_key.Reads as put-key-reads
 use Rattle.form.proofs.lines.read_many.Kinds as read-many
 use Rattle.form.proofs.lines.read_many.Reads as read-many-reads
 use Rattle.form.proofs.lines.pass_many.Kinds as pass-many
@@ -50,6 +56,15 @@ form-len-settled κs a r r' x x' p p' = p .0 ∙ sym (p' .0)
 
 pub put-form-settled : (κs : Lfts 3) (a : Dens κs put-form.ps) (r r' : resT put-form.r κs .Denot) (x x' : AtExit (endedOf 3 put-form.ps put-form.r) κs) → put-form-reads.Post κs a r x → put-form-reads.Post κs a r' x' → (r ≡ r') × (now (x .1 .1 .1 .0) ≡ now (x' .1 .1 .1 .0))
 put-form-settled κs a r r' x x' p p' = (p .0 ∙ sym (p' .0), p .1 ∙ sym (p' .1))
+
+pub read-key-settled : (κs : Lfts 2) (a : Dens κs read-key.ps) (r r' : resT read-key.r κs .Denot) (x x' : AtExit (endedOf 2 read-key.ps read-key.r) κs) → read-key-reads.Post κs a r x → read-key-reads.Post κs a r' x' → r ≡ r'
+read-key-settled κs a r r' x x' p p' = p ∙ sym p'
+
+pub key-len-settled : (κs : Lfts 1) (a : Dens κs key-len.ps) (r r' : resT key-len.r κs .Denot) (x x' : AtExit (endedOf 1 key-len.ps key-len.r) κs) → key-len-reads.Post κs a r x → key-len-reads.Post κs a r' x' → r ≡ r'
+key-len-settled κs a r r' x x' p p' = p .0 ∙ sym (p' .0)
+
+pub put-key-settled : (κs : Lfts 2) (a : Dens κs put-key.ps) (r r' : resT put-key.r κs .Denot) (x x' : AtExit (endedOf 2 put-key.ps put-key.r) κs) → put-key-reads.Post κs a r x → put-key-reads.Post κs a r' x' → (r ≡ r') × (now (x .1 .1 .1 .0) ≡ now (x' .1 .1 .1 .0))
+put-key-settled κs a r r' x x' p p' = (p .0 ∙ sym (p' .0), p .1 ∙ sym (p' .1))
 
 pub read-many-settled : (κs : Lfts 3) (a : Dens κs read-many.ps) (r r' : resT read-many.r κs .Denot) (x x' : AtExit (endedOf 3 read-many.ps read-many.r) κs) → read-many-reads.Post κs a r x → read-many-reads.Post κs a r' x' → (r ≡ r') × (now (x .1 .1 .1 .1 .1 .0) ≡ now (x' .1 .1 .1 .1 .1 .0))
 read-many-settled κs a r r' x x' p p' = (p .0 ∙ sym (p' .0), p .1 ∙ sym (p' .1))

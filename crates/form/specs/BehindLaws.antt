@@ -11,12 +11,14 @@ use lib.IntN.{ℤ}
 use lib.ListN.{length, take, drop, take-append-drop}
 use Rattle.form.specs.Dec.{numAt, numStart, numGo, digitOf}
 use Rattle.form.specs.Hex.{hexAt, hexGo, hexOf}
-use Rattle.form.specs.Form.{headOr, byteAt, valAt, valText, isMark, push, failed, withVal, formAt, formText}
-use Rattle.form.specs.FormLaws.{val-one, take-byte, byte-is, all-bytes, and-1, and-2, FormRead, form-one}
+use Rattle.form.specs.Form.{headOr, byteAt, valAt, valText, isMark, push, failed, withVal, marks, formAt, formText}
+use Rattle.form.specs.FormLaws.{val-one, take-byte, byte-is, all-bytes, plain, and-1, and-2, FormRead, form-one}
 use Rattle.form.specs.Many.{manyAt, rowsText}
 use Rattle.form.specs.ManyLaws.{RowsRead, many-one}
 use Rattle.form.specs.Ends.{lineEnds, firstLines, firstLine}
-use Rattle.form.specs.EndLaws.{ends-value, ends-form, ends-rows, mark-end}
+use Rattle.form.specs.EndLaws.{ends-value, ends-form, ends-rows, ends-key, mark-end}
+use Rattle.form.specs.Keys.{keyAt, keyText}
+use Rattle.form.specs.KeyLaws.{KeyRead, key-one}
 use Rattle.form.specs.declared.value.Val.{Val}
 use Rattle.form.specs.declared.value.Val.the-variants.{Got, Not}
 
@@ -232,6 +234,24 @@ end-next s s' at k g e =
       lines = lines-next k s s' at (suc at) (10 ∷ []) (take-byte s at 10 (omega arith) e) (take-byte s' at 10 (omega arith) e') (rw q (g .lines));
       room = byte-is s at 10 (omega arith) e .0;
       room' = byte-is s' at 10 (omega arith) e' .0;
+    }
+
+-- [5] a key is read alike, and the same lines stand behind it, said or not
+pub key-same : (f : List ℕ) (d : ℕ) (s s' : List ℕ) (at k : ℕ) → all-bytes f ≡ true → oneLine f ≡ true → 0 < k → SameLines k s s' at → keyAt f d s at ≡ keyAt f d s' at
+unfolding keyAt
+key-same f d s s' at k b o h g = rw (form-same f s s' at k b o h g)
+
+pub key-next : (f : List ℕ) (d : ℕ) (s s' : List ℕ) (at k : ℕ) → plain f ≡ true → marks f ≡ 1 → all-bytes f ≡ true → lineEnds f ≡ 0 → SameLines k s s' at
+    → keyAt f d s at ≡ keyAt f d s' at → keyAt f d s at .ok ≡ true → SameLines k s s' (keyAt f d s at .next)
+key-next f d s s' at k p m b l g e o =
+    let r = key-one f d p m s at b (g .room) o in
+    let r' : KeyRead f d s' at (keyAt f d s at) = rw e (key-one f d p m s' at b (g .room') (rw e at o)) in
+    let v : List ℕ = keyText f d (keyAt f d s at .word) in
+    let z : lineEnds v + k ≡ k = omega (arith, ends-key f d (keyAt f d s at .word) l) in
+    record {
+      lines = lines-next k s s' at (keyAt f d s at .next) v (r .text) (r' .text) (rw z (g .lines));
+      room = r .room;
+      room' = r' .room;
     }
 
 -- rows are read alike where each row that was looked at starts on one of the k lines

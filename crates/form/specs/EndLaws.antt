@@ -9,11 +9,12 @@ use borrow.Author.Tests.{eqb-true, eqb-false, ne-eqb}
 use lib.Dec.{eqb, ltb}
 use lib.ListN.{length, take, drop}
 use lib.Seq.{length-take-le, drop-at}
-use lib.IntN.{ℤ, natAbs}
+use lib.IntN.{ℤ, pos, natAbs}
 use Rattle.form.specs.Dec.{dec, decF}
 use Rattle.form.specs.Hex.{hexByte, hex}
 use Rattle.form.specs.Form.{valText, isMark, headZ, tailZ, marks, formAt, formText}
 use Rattle.form.specs.FormLaws.{text-neg, text-pos, text-hex, all-bytes, form-one}
+use Rattle.form.specs.Keys.{keyText}
 use Rattle.form.specs.Many.{manyAt, rowsText}
 use Rattle.form.specs.ManyLaws.{many-one}
 use Rattle.form.specs.Signed.{isNeg}
@@ -83,6 +84,15 @@ ends-rows (suc n) f vs =
     let a : List ℤ = take (marks f) vs in
     let b : List ℤ = drop (marks f) vs in
     ends-append (formText f a) (rowsText n f b) ∙ omega (arith, ends-form f a, ends-rows n f b)
+
+-- [5] a key has none where its form has none
+pub ends-key : (f : List ℕ) (d w : ℕ) → lineEnds f ≡ 0 → lineEnds (keyText f d w) ≡ 0
+unfolding keyText
+ends-key f d w e = go (eqb w d) refl
+  where
+    go : (b : Bool) → eqb w d ≡ b → lineEnds (keyText f d w) ≡ 0
+    go true g = rw g
+    go false g = rw g (ends-form f (pos w ∷ []) ∙ e)
 
 -- ---- the bytes that reading takes
 

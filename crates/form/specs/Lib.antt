@@ -5,6 +5,7 @@ pub mod Hex
 pub mod Signed
 pub mod Form
 pub mod Many
+pub mod Keys
 pub mod Words
 pub mod Ends
 -- laws of these
@@ -15,5 +16,6 @@ pub mod LengthLaws
 pub mod EndLaws
 pub mod RunLaws
 pub mod ManyLaws
+pub mod KeyLaws
 pub mod BehindLaws
 pub mod Put
