@@ -13,12 +13,14 @@ use Rattle.form.specs.Form.{Out, formAt, byteAt}
 use Rattle.form.specs.Many.{Run, manyAt}
 use Rattle.form.specs.Words.{wordOf}
 use Rattle.form.specs.Ends.{lineEnds, firstLine, firstLines}
-use Rattle.form.specs.BehindLaws.{SameLines, form-line, form-same, form-next, many-same, many-next, byte-same, end-next}
+use Rattle.form.specs.BehindLaws.{SameLines, form-line, form-same, form-next, many-same, many-next, key-same, key-next, byte-same, end-next}
+use Rattle.form.specs.Keys.{keyAt}
+use Rattle.form.specs.declared.keys.Key.{Key}
 use Rattle.text.specs.declared.card.Counts.{Counts}
-use Rattle.text.specs.Lines.{readingForm, voidForm, cardForm, depthForm, soilForm}
+use Rattle.text.specs.Lines.{readingForm, voidForm, cardForm, depthForm, shareForm, soilForm}
 use Rattle.text.specs.Readings.{resultOf, readReading}
 use Rattle.text.specs.Voids.{voidResult, readVoid, readEntry}
-use Rattle.text.specs.Cards.{rangeCounts, countsOf, countsOfOut, depthsAt, Parsed, parse}
+use Rattle.text.specs.Cards.{rangeCounts, countsOf, countsOfOut, unsaidShare, tailAt, Depths, depthsAt, Parsed, parse}
 
 -- reading a reading looks at the text's first line only, accepted or refused
 pub reading-behind : (s : List ℕ) → readReading s ≡ readReading (firstLine s)
@@ -65,6 +67,34 @@ module _ (s s' : List ℕ) (k : ℕ) (g : SameLines (suc k) s s' 0) where
           let r = range-next (o .next) (wordOf (getD (o .vals) 0 (pos 0))) (wordOf (getD (o .vals) 1 (pos 0))) (rw x at e) in
           rw (x, r) (form-next cardForm s s' 0 (suc k) refl (rw z g) (form-same cardForm s s' 0 (suc k) refl refl (omega arith) g) x)
 
+-- [5] the rest of the first line
+module _ (s s' : List ℕ) (at k : ℕ) (g : SameLines (suc k) s s' at) where
+  abbrev said : Key
+  said = keyAt shareForm unsaidShare s at
+
+  share-same : said ≡ keyAt shareForm unsaidShare s' at
+  share-same = key-same shareForm unsaidShare s s' at (suc k) refl refl (omega arith) g
+
+  share-next : said .ok ≡ true → SameLines (suc k) s s' (said .next)
+  share-next o = key-next shareForm unsaidShare s s' at (suc k) refl refl refl refl g share-same o
+
+  tail-same : tailAt s at ≡ tailAt s' at
+  unfolding tailAt
+  tail-same = go (said .ok) refl
+    where
+      go : (b : Bool) → said .ok ≡ b → tailAt s at ≡ tailAt s' at
+      go true o = rw (← share-same, o, byte-same s s' (said .next) (suc k) (omega arith) (share-next o))
+      go false o = rw (← share-same, o)
+
+  tail-next : tailAt s at .ok ≡ true → SameLines k s s' (tailAt s at .next)
+  unfolding tailAt
+  tail-next e = go (said .ok) refl (eqb (byteAt s (said .next)) 10) refl
+    where
+      go : (b : Bool) → said .ok ≡ b → (y : Bool) → eqb (byteAt s (said .next)) 10 ≡ y → SameLines k s s' (tailAt s at .next)
+      go false o y q = absurd (false≢true (rw o at e))
+      go true o false q = absurd (false≢true (rw (o, q) at e))
+      go true o true q = rw (o, q) (end-next s s' (said .next) k (share-next o) (eqb-true (byteAt s (said .next)) 10 q))
+
 module _ (n : ℕ) (s s' : List ℕ) (at k : ℕ) (g : SameLines (suc k) s s' at) where
   runs : manyAt n depthForm s at ≡ manyAt n depthForm s' at
   runs = many-same n depthForm s s' at (suc k) refl refl (λ i a b. omega arith) g
@@ -78,42 +108,41 @@ module _ (n : ℕ) (s s' : List ℕ) (at k : ℕ) (g : SameLines (suc k) s s' at
   depths-same = go (manyAt n depthForm s at .ok) refl
     where
       go : (b : Bool) → manyAt n depthForm s at .ok ≡ b → depthsAt n s at ≡ depthsAt n s' at
-      go true o = rw (← runs, o, byte-same s s' (manyAt n depthForm s at .next) (suc k) (omega arith) (runs-next o))
+      go true o = rw (← runs, o, tail-same s s' (manyAt n depthForm s at .next) k (runs-next o))
       go false o = rw (← runs, o)
 
   -- behind the first line
-  depths-next : depthsAt n s at .ok ≡ true → SameLines k s s' (depthsAt n s at .next)
+  depths-next : depthsAt n s at .tail .ok ≡ true → SameLines k s s' (depthsAt n s at .tail .next)
   unfolding depthsAt
-  depths-next e = go (manyAt n depthForm s at .ok) refl (eqb (byteAt s (manyAt n depthForm s at .next)) 10) refl
+  depths-next e = go (manyAt n depthForm s at .ok) refl
     where
-      go : (b : Bool) → manyAt n depthForm s at .ok ≡ b → (y : Bool) → eqb (byteAt s (manyAt n depthForm s at .next)) 10 ≡ y → SameLines k s s' (depthsAt n s at .next)
-      go false o y q = absurd (false≢true (rw o at e))
-      go true o false q = absurd (false≢true (rw (o, q) at e))
-      go true o true q = rw (o, q) (end-next s s' (manyAt n depthForm s at .next) k (runs-next o) (eqb-true (byteAt s (manyAt n depthForm s at .next)) 10 q))
+      go : (b : Bool) → manyAt n depthForm s at .ok ≡ b → SameLines k s s' (depthsAt n s at .tail .next)
+      go false o = absurd (false≢true (rw o at e))
+      go true o = rw o (tail-next s s' (manyAt n depthForm s at .next) k (runs-next o) (rw o at e))
 
 -- two texts that show the same lines are read alike where no more of them are looked at
 card-same : (s s' : List ℕ) (k : ℕ) → cardLines (parse s) ≤ suc k → SameLines (suc k) s s' 0 → parse s ≡ parse s'
 unfolding parse
-card-same s s' k h g = go (hh .ok) refl (dd .ok) refl
+card-same s s' k h g = go (hh .ok) refl (dd .tail .ok) refl
   where
     hh : Counts
     hh = countsOf s
 
-    dd : Out
+    dd : Depths
     dd = depthsAt (hh .delays) s (hh .next)
 
     mm : Run
-    mm = manyAt (hh .cells) soilForm s (dd .next)
+    mm = manyAt (hh .cells) soilForm s (dd .tail .next)
 
-    soil-same : SameLines k s s' (dd .next) → (z : Bool) → mm .ok ≡ z → hh .ok ≡ true → dd .ok ≡ true → mm ≡ manyAt (hh .cells) soilForm s' (dd .next)
+    soil-same : SameLines k s s' (dd .tail .next) → (z : Bool) → mm .ok ≡ z → hh .ok ≡ true → dd .tail .ok ≡ true → mm ≡ manyAt (hh .cells) soilForm s' (dd .tail .next)
     soil-same q true z x y =
         let c : suc (hh .cells) ≤ suc k = rw (x, y, z) at h in
-        many-same (hh .cells) soilForm s s' (dd .next) k refl refl (λ i a b. omega arith) q
+        many-same (hh .cells) soilForm s s' (dd .tail .next) k refl refl (λ i a b. omega arith) q
     soil-same q false z x y =
         let c : mm .good + 2 ≤ suc k = rw (x, y, z, ne-eqb (mm .good + 2) 0 (omega arith)) at h in
-        many-same (hh .cells) soilForm s s' (dd .next) k refl refl (λ i a b. omega arith) q
+        many-same (hh .cells) soilForm s s' (dd .tail .next) k refl refl (λ i a b. omega arith) q
 
-    go : (x : Bool) → hh .ok ≡ x → (y : Bool) → dd .ok ≡ y → parse s ≡ parse s'
+    go : (x : Bool) → hh .ok ≡ x → (y : Bool) → dd .tail .ok ≡ y → parse s ≡ parse s'
     go false x y r = rw (← counts-same s s' k g, x)
     go true x false r = rw (← counts-same s s' k g, x, ← depths-same (hh .delays) s s' (hh .next) k (counts-next s s' k g x), r)
     go true x true r =

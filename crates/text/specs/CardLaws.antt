@@ -17,13 +17,16 @@ use Rattle.form.specs.declared.line.Taken.{Taken}
 use Rattle.form.specs.declared.lines.Stood.{Stood}
 use Rattle.text.specs.declared.card.Counts.{Counts}
 use Rattle.text.specs.declared.card.CardRead.{CardRead}
+use Rattle.text.specs.declared.card.Tail.{Tail}
+use Rattle.form.specs.declared.keys.Key.{Key}
+use Rattle.form.specs.Keys.{keyAt}
 use Rattle.form.specs.Put.{sets-all}
 use Rattle.form.specs.Form.{Out, formAt, takenOf, byteAt}
 use Rattle.form.specs.Many.{Run, manyAt, stoodOf}
 use Rattle.form.specs.RunLaws.{form-length, many-length}
 use Rattle.form.specs.Words.{wordOf}
-use Rattle.text.specs.Lines.{cardForm, depthForm, soilForm}
-use Rattle.text.specs.Cards.{noCounts, rangeCounts, countsOf, countsOfOut, depthsAt, cardWith, refusedCard, badLine, parse, cardResult, soilResult}
+use Rattle.text.specs.Lines.{cardForm, depthForm, shareForm, soilForm}
+use Rattle.text.specs.Cards.{noCounts, rangeCounts, countsOf, countsOfOut, unsaidShare, noTail, tailAt, Depths, depthsAt, cardWith, refusedCard, badLine, parse, cardResult, soilResult}
 
 -- a copy's turn
 pub copy-suc : (s d : List ℤ) (k : ℕ) → k < length s → k < length d → set (take k s ++ drop k d) k (getD s k (pos 0)) ≡ take (suc k) s ++ drop (suc k) d
@@ -52,31 +55,35 @@ module _ (s : List ℕ) (t : Taken) (e : t ≡ takenOf (formAt cardForm s 0)) wh
       let k : formAt cardForm s 0 .ok ≡ false = sym (ap (λ (x : Taken). x .ok) e) ∙ o in
       rw k
 
+-- [5] its rest
+module _ (s : List ℕ) (at : ℕ) (k : Key) (e : k ≡ keyAt shareForm unsaidShare s at) where
+  pub tail-bad : k .ok ≡ false → noTail ≡ tailAt s at
+  unfolding tailAt
+  tail-bad o = rw (← e, o)
+
+  pub tail-other : k .ok ≡ true → (byteAt s (k .next) ≡ 10 → ⊥) → noTail ≡ tailAt s at
+  unfolding tailAt
+  tail-other o h = rw (← e, o, ne-eqb _ _ h)
+
+  pub tail-good : k .ok ≡ true → byteAt s (k .next) ≡ 10 → record { ok = true; next = k .next + 1; share = k .word } ≡ tailAt s at
+  unfolding tailAt
+  tail-good o h = rw (← e, o, eq-eqb _ _ h, add-one (k .next))
+
 module _ (n : ℕ) (s : List ℕ) (from : ℕ) (t : Stood) (z v : List ℤ) (e : t ≡ stoodOf (manyAt n depthForm s from) 0) (f : v ≡ sets z 0 (manyAt n depthForm s from .vals)) where
-  abbrev Ends : Taken → Type 0
-  Ends r = (r ≡ takenOf (depthsAt n s from)) × (v ≡ sets z 0 (depthsAt n s from .vals))
+  abbrev Ends : Tail → Type 0
+  Ends r = (r ≡ depthsAt n s from .tail) × (v ≡ sets z 0 (depthsAt n s from .vals))
 
-  pub ends-good : t .ok ≡ true → byteAt s (t .next) ≡ 10 → Ends (record { ok = true; next = t .next + 1 })
+  pub ends-good : (r : Tail) → t .ok ≡ true → r ≡ tailAt s (t .next) → Ends r
   unfolding depthsAt
-  ends-good o b =
+  ends-good r o g =
       let k : manyAt n depthForm s from .ok ≡ true = sym (ap (λ (x : Stood). x .ok) e) ∙ o in
-      let x : t .next ≡ manyAt n depthForm s from .next = ap (λ (x : Stood). x .next) e in
-      let y : byteAt s (manyAt n depthForm s from .next) ≡ 10 = rw x at b in
-      (rw (k, eq-eqb _ _ y, add-one (t .next), x), rw (k, eq-eqb _ _ y) f)
+      (rw (k, g, e), f)
 
-  pub ends-other : t .ok ≡ true → (byteAt s (t .next) ≡ 10 → ⊥) → Ends (record { ok = false; next = 0 })
+  pub ends-bad : (r : Tail) → t .ok ≡ false → r ≡ noTail → Ends r
   unfolding depthsAt
-  ends-other o b =
-      let k : manyAt n depthForm s from .ok ≡ true = sym (ap (λ (x : Stood). x .ok) e) ∙ o in
-      let x : t .next ≡ manyAt n depthForm s from .next = ap (λ (x : Stood). x .next) e in
-      let y : byteAt s (manyAt n depthForm s from .next) ≡ 10 → ⊥ = rw x at b in
-      (rw (k, ne-eqb _ _ y), rw (k, ne-eqb _ _ y) f)
-
-  pub ends-bad : t .ok ≡ false → Ends (record { ok = false; next = 0 })
-  unfolding depthsAt
-  ends-bad o =
+  ends-bad r o g =
       let k : manyAt n depthForm s from .ok ≡ false = sym (ap (λ (x : Stood). x .ok) e) ∙ o in
-      (rw k, rw k f)
+      (rw (k, g), f)
 
 pub head-range : (s : List ℕ) (h : Counts) → h ≡ countsOf s → (h .delays ≤ 30) × (h .cells ≤ 256)
 unfolding countsOf rangeCounts
@@ -94,11 +101,11 @@ head-range s h e = rw e (first (formAt cardForm s 0))
         go false = (omega arith, omega arith)
 
 -- ---- the whole card
-abbrev DD : List ℕ → Out
+abbrev DD : List ℕ → Depths
 DD s = depthsAt (countsOf s .delays) s (countsOf s .next)
 
 abbrev MM : List ℕ → Run
-MM s = manyAt (countsOf s .cells) soilForm s (DD s .next)
+MM s = manyAt (countsOf s .cells) soilForm s (DD s .tail .next)
 
 abbrev pub CardEnd : List ℕ → List ℤ → CardRead → List ℤ → Type 0
 CardEnd s b r l = (r ≡ cardResult (parse s) (length b)) × (l ≡ soilResult (parse s) b)
@@ -116,25 +123,25 @@ module _ (s : List ℕ) (b : List ℤ) (h : Counts) (eh : h ≡ countsOf s) (r :
       p : parse s ≡ badLine 1
       p = unfold parse in rw k
 
-  module _ (t : Taken) (et : t ≡ takenOf (depthsAt (h .delays) s (h .next))) (o1 : h .ok ≡ true) where
+  module _ (t : Tail) (et : t ≡ depthsAt (h .delays) s (h .next) .tail) (o1 : h .ok ≡ true) where
     k1 : countsOf s .ok ≡ true
     k1 = sym (ap (λ (x : Counts). x .ok) eh) ∙ o1
 
-    t′ : t ≡ takenOf (DD s)
+    t′ : t ≡ DD s .tail
     t′ = rw eh at et
 
     pub end-depths : t .ok ≡ false → r ≡ refusedCard malformed 1 → CardEnd s b r b
     end-depths o e = end-bad s b 1 r p (omega arith) e
       where
-        k : DD s .ok ≡ false
-        k = sym (ap (λ (x : Taken). x .ok) t′) ∙ o
+        k : DD s .tail .ok ≡ false
+        k = sym (ap (λ (x : Tail). x .ok) t′) ∙ o
 
         p : parse s ≡ badLine 1
         p = unfold parse in rw (k1, k)
 
     module _ (m : Stood) (em : m ≡ stoodOf (manyAt (h .cells) soilForm s (t .next)) 0) (o2 : t .ok ≡ true) where
-      k2 : DD s .ok ≡ true
-      k2 = sym (ap (λ (x : Taken). x .ok) t′) ∙ o2
+      k2 : DD s .tail .ok ≡ true
+      k2 = sym (ap (λ (x : Tail). x .ok) t′) ∙ o2
 
       m′ : m ≡ stoodOf (MM s) 0
       m′ = rw (eh, t′) at em
@@ -151,7 +158,7 @@ module _ (s : List ℕ) (b : List ℤ) (h : Counts) (eh : h ≡ countsOf s) (r :
           p : parse s ≡ badLine (MM s .good + 2)
           p = unfold parse in rw (k1, k2, k)
 
-      fine : m .ok ≡ true → parse s ≡ record { line = 0; next = m .next; card = cardWith h (DD s .vals); soil = MM s .vals }
+      fine : m .ok ≡ true → parse s ≡ record { line = 0; next = m .next; card = cardWith h (DD s); soil = MM s .vals }
       unfolding parse
       fine o =
           let k : MM s .ok ≡ true = sym (ap (λ (x : Stood). x .ok) m′) ∙ o in
@@ -162,11 +169,11 @@ module _ (s : List ℕ) (b : List ℤ) (h : Counts) (eh : h ≡ countsOf s) (r :
 
       pub end-good : (ds : List ℕ) (v l : List ℤ) → m .ok ≡ true → h .cells * 5 ≤ length b → v ≡ sets (replicate 30 (pos 0)) 0 (depthsAt (h .delays) s (h .next) .vals)
           → ds ≡ map wordOf v → l ≡ sets b 0 (manyAt (h .cells) soilForm s (t .next) .vals)
-          → CardEnd s b (record { number = 0; taken = m .next; line = 0; card = record { cells = h .cells; delays = h .delays; depths = ds } }) l
+          → CardEnd s b (record { number = 0; taken = m .next; line = 0; card = record { cells = h .cells; delays = h .delays; depths = ds; share = t .share } }) l
       end-good ds v l o q ev ed el =
           let k : MM s .ok ≡ true = sym (ap (λ (x : Stood). x .ok) m′) ∙ o in
           let el′ : l ≡ sets b 0 (MM s .vals) = rw (eh, t′) at el in
           let hc : h .cells ≡ countsOf s .cells = ap (λ (x : Counts). x .cells) eh in
-          let ln : length (MM s .vals) ≡ h .cells * 5 = many-length (countsOf s .cells) soilForm s (DD s .next) k ∙ omega arith in
+          let ln : length (MM s .vals) ≡ h .cells * 5 = many-length (countsOf s .cells) soilForm s (DD s .tail .next) k ∙ omega arith in
           let lz : 0 + length (MM s .vals) ≡ h .cells * 5 = omega arith in
-          (rw (fine o, le-ltb _ _ q, ed, ev, eh), rw (fine o, le-ltb _ _ q) (el′ ∙ sets-eq (MM s .vals) b 0 (omega arith) ∙ ap (λ (n : ℕ). MM s .vals ++ drop n b) lz))
+          (rw (fine o, le-ltb _ _ q, ed, ev, eh, t′), rw (fine o, le-ltb _ _ q) (el′ ∙ sets-eq (MM s .vals) b 0 (omega arith) ∙ ap (λ (n : ℕ). MM s .vals ++ drop n b) lz))

@@ -14,6 +14,10 @@ use Rattle.text.specs.declared.Written.{Written}
 use native.Mathlib.Numerals.{add-one}
 use Rattle.text.specs.declared.card.Counts.{Counts}
 use Rattle.text.specs.declared.card.CardRead.{CardRead}
+use Rattle.text.specs.declared.card.Tail.{Tail}
+use Rattle.form.specs.declared.keys.Key.{Key}
+use Rattle.form.specs.Keys.{keyOf, keyAt, keyText}
+use Rattle.form.specs.KeyLaws.{key-one, key-back, key-default, key-absent, key-then, text-none}
 use Rattle.cell.specs.declared.Card.{Card}
 use Rattle.cell.specs.declared.Refusal.the-variants.{BadLengths}
 use Rattle.cell.specs.Ranges.{countsOk, noneOf}
@@ -26,8 +30,8 @@ use Rattle.form.specs.RunLaws.{form-length, many-length, good-most}
 use Rattle.form.specs.DecLaws.{stops}
 use Rattle.form.specs.ManyLaws.{many-one, many-back, ran, rows-front, rows-stops, rows-words, rows-small}
 use Rattle.form.specs.Words.{wordOf}
-use Rattle.text.specs.Lines.{cardForm, depthForm, soilForm}
-use Rattle.text.specs.Cards.{rangeCounts, countsOf, depthsAt, parse, cardResult, soilResult, cardText, cardParts, hasText, cardChecks}
+use Rattle.text.specs.Lines.{cardForm, depthForm, shareForm, soilForm}
+use Rattle.text.specs.Cards.{rangeCounts, countsOf, unsaidShare, noTail, tailAt, Depths, depthsAt, badLine, parse, cardResult, soilResult, tailText, cardText, cardParts, hasText, cardChecks}
 use Rattle.text.specs.Written.{fitsIn, Writes}
 use Rattle.text.specs.WrittenLaws.{no-room, has-room, writes-none, writes-all, writes-text}
 use Rattle.form.specs.Put.{sets-step}
@@ -75,30 +79,54 @@ head-one s e = go (formAt cardForm s 0 .ok) refl
         ap (map unword) (cells-take 2 0 (o .vals) (omega arith) ∙ take-all 2 (o .vals) (omega arith)) ∙ ok-words cardForm (o .vals) refl n (r .fits) in
         rw (k, g) (record { text = rw v (r .text); room = r .room; some = l; most = m; few = d })
 
--- ---- the depths and the line's end
-pub record EndRead (n : ℕ) (s : List ℕ) (at : ℕ) (o : Out) : Type 0 where
-  pub text : take (o .next) s ≡ take at s ++ (rowsText n depthForm (o .vals) ++ (10 ∷ []))
-  pub room : o .next ≤ length s
-  pub fits : manyFit n depthForm (o .vals) ≡ true
-  pub count : length (o .vals) ≡ n
+-- ---- [5] the rest of the line, and the depths before it
+pub record TailRead (s : List ℕ) (at : ℕ) (t : Tail) : Type 0 where
+  pub text : take (t .next) s ≡ take at s ++ tailText (t .share)
+  pub room : t .next ≤ length s
 
-pub depths-one : (n : ℕ) (s : List ℕ) (at : ℕ) → at ≤ length s → depthsAt n s at .ok ≡ true → EndRead n s at (depthsAt n s at)
+tail-one : (s : List ℕ) (at : ℕ) → at ≤ length s → tailAt s at .ok ≡ true → TailRead s at (tailAt s at)
+unfolding tailAt tailText
+tail-one s at l e = go (k .ok) refl (eqb (byteAt s (k .next)) 10) refl
+  where
+    k : Key
+    k = keyAt shareForm unsaidShare s at
+
+    go : (x : Bool) → k .ok ≡ x → (y : Bool) → eqb (byteAt s (k .next)) 10 ≡ y → TailRead s at (tailAt s at)
+    go false o y g = absurd (false≢true (rw o at e))
+    go true o false g = absurd (false≢true (rw (o, g) at e))
+    go true o true g =
+        let r = key-one shareForm unsaidShare refl refl s at refl l o in
+        let b : byteAt s (k .next) ≡ 10 = eqb-true (byteAt s (k .next)) 10 g in
+        rw (o, g) (record {
+          text = take-byte s (k .next) 10 (omega arith) b ∙ ap (λ (x : List ℕ). x ++ (10 ∷ [])) (r .text) ∙ append-assoc (take at s) (keyText shareForm unsaidShare (k .word)) (10 ∷ []);
+          room = byte-is s (k .next) 10 (omega arith) b .0;
+        })
+
+pub record EndRead (n : ℕ) (s : List ℕ) (at : ℕ) (d : Depths) : Type 0 where
+  pub text : take (d .tail .next) s ≡ take at s ++ (rowsText n depthForm (d .vals) ++ tailText (d .tail .share))
+  pub room : d .tail .next ≤ length s
+  pub fits : manyFit n depthForm (d .vals) ≡ true
+  pub count : length (d .vals) ≡ n
+
+pub depths-one : (n : ℕ) (s : List ℕ) (at : ℕ) → at ≤ length s → depthsAt n s at .tail .ok ≡ true → EndRead n s at (depthsAt n s at)
 unfolding depthsAt
-depths-one n s at l e = go (manyAt n depthForm s at .ok) refl (eqb (byteAt s (manyAt n depthForm s at .next)) 10) refl
+depths-one n s at l e = go (manyAt n depthForm s at .ok) refl
   where
     d : Run
     d = manyAt n depthForm s at
 
-    go : (x : Bool) → d .ok ≡ x → (y : Bool) → eqb (byteAt s (d .next)) 10 ≡ y → EndRead n s at (depthsAt n s at)
-    go false k y g = absurd (false≢true (rw k at e))
-    go true k false g = absurd (false≢true (rw (k, g) at e))
-    go true k true g =
+    t : Tail
+    t = tailAt s (d .next)
+
+    go : (x : Bool) → d .ok ≡ x → EndRead n s at (depthsAt n s at)
+    go false k = absurd (false≢true (rw k at e))
+    go true k =
         let r = many-one n depthForm s at refl l k in
-        let b : byteAt s (d .next) ≡ 10 = eqb-true (byteAt s (d .next)) 10 g in
+        let q = tail-one s (d .next) (r .room) (rw k at e) in
         let c : length (d .vals) ≡ n * 1 = many-length n depthForm s at k in
-        rw (k, g) (record {
-          text = take-byte s (d .next) 10 (omega arith) b ∙ ap (λ (x : List ℕ). x ++ (10 ∷ [])) (r .text) ∙ append-assoc (take at s) (rowsText n depthForm (d .vals)) (10 ∷ []);
-          room = byte-is s (d .next) 10 (omega arith) b .0;
+        rw k (record {
+          text = q .text ∙ ap (λ (x : List ℕ). x ++ tailText (t .share)) (r .text) ∙ append-assoc (take at s) (rowsText n depthForm (d .vals)) (tailText (t .share));
+          room = q .room;
           fits = r .fits;
           count = omega arith;
         })
@@ -117,17 +145,17 @@ module _ (s : List ℕ) where
   abbrev countsIn : Counts
   countsIn = countsOf s
 
-  abbrev depthsIn : Out
+  abbrev depthsIn : Depths
   depthsIn = depthsAt (countsIn .delays) s (countsIn .next)
 
   abbrev soilIn : Run
-  soilIn = manyAt (countsIn .cells) soilForm s (depthsIn .next)
+  soilIn = manyAt (countsIn .cells) soilForm s (depthsIn .tail .next)
 
-  all-good : parse s .line ≡ 0 → (countsIn .ok ≡ true) × (depthsIn .ok ≡ true) × (soilIn .ok ≡ true)
+  all-good : parse s .line ≡ 0 → (countsIn .ok ≡ true) × (depthsIn .tail .ok ≡ true) × (soilIn .ok ≡ true)
   unfolding parse
-  all-good e = go (countsIn .ok) refl (depthsIn .ok) refl (soilIn .ok) refl
+  all-good e = go (countsIn .ok) refl (depthsIn .tail .ok) refl (soilIn .ok) refl
     where
-      go : (x : Bool) → countsIn .ok ≡ x → (y : Bool) → depthsIn .ok ≡ y → (z : Bool) → soilIn .ok ≡ z → (countsIn .ok ≡ true) × (depthsIn .ok ≡ true) × (soilIn .ok ≡ true)
+      go : (x : Bool) → countsIn .ok ≡ x → (y : Bool) → depthsIn .tail .ok ≡ y → (z : Bool) → soilIn .ok ≡ z → (countsIn .ok ≡ true) × (depthsIn .tail .ok ≡ true) × (soilIn .ok ≡ true)
       go false k y l z n = absurd (let q : 1 ≡ 0 = rw k at e in omega arith)
       go true k false l z n = absurd (let q : 1 ≡ 0 = rw (k, l) at e in omega arith)
       go true k true l false n = absurd (let q : soilIn .good + 2 ≡ 0 = rw (k, l, n) at e in omega arith)
@@ -136,12 +164,12 @@ module _ (s : List ℕ) where
   -- a malformed line is one of the first 258
   pub line-most : parse s .line ≤ 258
   unfolding parse
-  line-most = go (countsIn .ok) refl (depthsIn .ok) refl (soilIn .ok) refl
+  line-most = go (countsIn .ok) refl (depthsIn .tail .ok) refl (soilIn .ok) refl
     where
-      go : (x : Bool) → countsIn .ok ≡ x → (y : Bool) → depthsIn .ok ≡ y → (z : Bool) → soilIn .ok ≡ z → parse s .line ≤ 258
+      go : (x : Bool) → countsIn .ok ≡ x → (y : Bool) → depthsIn .tail .ok ≡ y → (z : Bool) → soilIn .ok ≡ z → parse s .line ≤ 258
       go false k y l z n = rw k (omega arith)
       go true k false l z n = rw (k, l) (omega arith)
-      go true k true l false n = rw (k, l, n) (omega (arith, good-most (countsIn .cells) soilForm s (depthsIn .next), head-one s k .most))
+      go true k true l false n = rw (k, l, n) (omega (arith, good-most (countsIn .cells) soilForm s (depthsIn .tail .next), head-one s k .most))
       go true k true l true n = rw (k, l, n) (omega arith)
 
   -- a card that is read has 256 cells at the most
@@ -159,13 +187,14 @@ card-one s e =
     let m = soilIn s in
     let hr = head-one s (g .0) in
     let dr = depths-one (h .delays) s (h .next) (hr .room) (g .1) in
-    let mr = many-one (h .cells) soilForm s (d .next) refl (dr .room) (g .2) in
+    let mr = many-one (h .cells) soilForm s (d .tail .next) refl (dr .room) (g .2) in
     let a : List ℕ = formText cardForm (pos (h .cells) ∷ pos (h .delays) ∷ []) in
     let b : List ℕ = rowsText (h .delays) depthForm (d .vals) in
+    let t : List ℕ = tailText (d .tail .share) in
     let c : List ℕ = rowsText (h .cells) soilForm (m .vals) in
     rw (g .0, g .1, g .2, kept-depths (h .delays) (d .vals) (dr .fits) (dr .count) (hr .few))
-    (mr .text ∙ ap (λ (x : List ℕ). x ++ c) (dr .text ∙ ap (λ (x : List ℕ). x ++ (b ++ (10 ∷ []))) (hr .text))
-    ∙ append-assoc a (b ++ (10 ∷ [])) c ∙ ap (λ (x : List ℕ). a ++ x) (append-snoc b 10 c))
+    (mr .text ∙ ap (λ (x : List ℕ). x ++ c) (dr .text ∙ ap (λ (x : List ℕ). x ++ (b ++ t)) (hr .text))
+    ∙ append-assoc a (b ++ t) c ∙ ap (λ (x : List ℕ). a ++ x) (append-assoc b t c))
 
 -- ---- what was written is read back
 -- a card that a text gives, with its soil numbers
@@ -175,13 +204,43 @@ pub record CardFits (c : Card) (soil : List ℤ) : Type 0 where
   pub few : c .delays ≤ 30
   pub depths : manyFit (c .delays) depthForm (map pos (take (c .delays) (c .depths))) ≡ true
   pub unused : map wordOf (sets (replicate 30 (pos 0)) 0 (map pos (take (c .delays) (c .depths)))) ≡ c .depths
+  pub share : c .share < 4294967296
   pub long : length soil ≡ c .cells * 5
   pub rows : manyFit (c .cells) soilForm soil ≡ true
 
 depth-parted : (vs : List ℤ) (x : List ℕ) → parted depthForm (formText depthForm vs ++ x) ≡ true
 depth-parted vs x = and-i (stops (formText depthForm vs ++ x)) true (apart-stops depthForm vs x refl) refl
 
-module _ (c : Card) (soil : List ℤ) (q : List ℕ) (ok : CardFits c soil) where
+-- [5] the rest of the line is read back, whatever stands behind it: no line's end can be taken for a share
+module _ (share : ℕ) (x : List ℕ) where
+  abbrev tk : List ℕ
+  tk = keyText shareForm unsaidShare share
+
+  tail-as : tailText share ++ x ≡ tk ++ (10 ∷ x)
+  unfolding tailText
+  tail-as = append-assoc tk (10 ∷ []) x
+
+  tail-stops : stops (tailText share ++ x) ≡ true
+  tail-stops = rw tail-as (key-then stops shareForm unsaidShare share (10 ∷ x) refl (apart-stops shareForm (pos share ∷ []) (10 ∷ x) refl))
+
+  tail-back : (p : List ℕ) → share < 4294967296
+      → tailAt (p ++ (tailText share ++ x)) (length p) ≡ record { ok = true; next = length p + length (tailText share); share = share }
+  unfolding tailAt
+  tail-back p l =
+      let s : List ℕ = p ++ (tk ++ (10 ∷ x)) in
+      let e : length (p ++ tk) ≡ length p + length tk = length-append p tk in
+      let a : s ≡ (p ++ tk) ++ (10 ∷ x) = sym (append-assoc p tk (10 ∷ x)) in
+      let k : keyAt shareForm unsaidShare s (length p) ≡ keyOf (length p + length tk) share = key-back shareForm unsaidShare refl refl share p (10 ∷ x) l refl refl in
+      let b : byteAt s (length p + length tk) ≡ 10 = rw (a, ← e) (byte-seam (p ++ tk) 10 x) in
+      let z : suc (length p + length tk) ≡ length p + length (tailText share) = unfold tailText in simp length-append (omega arith) in
+      rw (tail-as, k, b) (ap (λ (n : ℕ). record { ok = true; next = n; share = share }) z)
+
+-- [5] a line that ends right behind its depths has the share that is not said
+pub tail-unsaid : (s : List ℕ) (at : ℕ) → byteAt s at ≡ 10 → tailAt s at ≡ record { ok = true; next = suc at; share = unsaidShare }
+unfolding tailAt byteAt
+tail-unsaid s at e = rw (key-absent shareForm unsaidShare s at (rw e), e)
+
+module _ (c : Card) (soil : List ℤ) (ok : CardFits c soil) where
   abbrev ta : List ℕ
   ta = formText cardForm (pos (c .cells) ∷ pos (c .delays) ∷ [])
 
@@ -191,79 +250,116 @@ module _ (c : Card) (soil : List ℤ) (q : List ℕ) (ok : CardFits c soil) wher
   abbrev tb : List ℕ
   tb = rowsText (c .delays) depthForm vd
 
-  abbrev tc : List ℕ
-  tc = rowsText (c .cells) soilForm soil
-
-  abbrev whole : List ℕ
-  whole = (ta ++ (tb ++ (10 ∷ tc))) ++ q
-
-  as-head : whole ≡ ta ++ (tb ++ (10 ∷ (tc ++ q)))
-  as-head = append-assoc ta (tb ++ (10 ∷ tc)) q ∙ ap (λ (x : List ℕ). ta ++ x) (append-assoc tb (10 ∷ tc) q)
-
-  as-end : whole ≡ (ta ++ tb) ++ (10 ∷ (tc ++ q))
-  as-end = as-head ∙ sym (append-assoc ta tb (10 ∷ (tc ++ q)))
-
-  as-soil : whole ≡ ((ta ++ tb) ++ (10 ∷ [])) ++ (tc ++ q)
-  as-soil = as-end ∙ sym (append-snoc (ta ++ tb) 10 (tc ++ q))
-
   depths-count : length vd ≡ c .delays * 1
   depths-count =
       let l : length (c .depths) ≡ 30 = sym (ap length (ok .unused)) ∙ length-map (sets (replicate 30 (pos 0)) 0 vd) wordOf ∙ length-sets (replicate 30 (pos 0)) 0 vd in
       length-map (take (c .delays) (c .depths)) pos ∙ length-take-le (c .delays) (c .depths) (omega (arith, ok .few)) ∙ omega arith
 
-  read-head : countsOf whole ≡ record { ok = true; next = length ta; cells = c .cells; delays = c .delays }
-  unfolding countsOf rangeCounts
-  read-head =
-      let p : c .cells < 4294967296 = omega (arith, ok .most) in
-      let r : c .delays < 4294967296 = omega (arith, ok .few) in
-      let f = form-back cardForm (pos (c .cells) ∷ pos (c .delays) ∷ []) [] (tb ++ (10 ∷ (tc ++ q))) refl
-      (small-oks cardForm (pos (c .cells) ∷ pos (c .delays) ∷ []) refl (and-i _ _ (lt-ltb _ _ p) (and-i _ _ (lt-ltb _ _ r) refl)))
-      (and-i (stops (tb ++ (10 ∷ (tc ++ q)))) true (rows-stops depthForm (λ x. refl) (c .delays) vd (10 ∷ (tc ++ q)) refl) refl) in
-      let z : 0 + length ta ≡ length ta = omega arith in
-      rw (as-head, f, z, lt-ltb (c .cells) 4294967296 p, lt-ltb (c .delays) 4294967296 r, counts-ok (c .cells) (c .delays) (ok .some) (ok .most) (ok .few))
+  -- the counts and the depths of a card, whatever stands behind them that goes on with no digit
+  module _ (x : List ℕ) (st : stops x ≡ true) where
+    read-head : countsOf (ta ++ (tb ++ x)) ≡ record { ok = true; next = length ta; cells = c .cells; delays = c .delays }
+    unfolding countsOf rangeCounts
+    read-head =
+        let p : c .cells < 4294967296 = omega (arith, ok .most) in
+        let r : c .delays < 4294967296 = omega (arith, ok .few) in
+        let f = form-back cardForm (pos (c .cells) ∷ pos (c .delays) ∷ []) [] (tb ++ x) refl
+        (small-oks cardForm (pos (c .cells) ∷ pos (c .delays) ∷ []) refl (and-i _ _ (lt-ltb _ _ p) (and-i _ _ (lt-ltb _ _ r) refl)))
+        (and-i (stops (tb ++ x)) true (rows-stops depthForm (λ y. refl) (c .delays) vd x st) refl) in
+        let z : 0 + length ta ≡ length ta = omega arith in
+        rw (f, z, lt-ltb (c .cells) 4294967296 p, lt-ltb (c .delays) 4294967296 r, counts-ok (c .cells) (c .delays) (ok .some) (ok .most) (ok .few))
 
-  read-depths : depthsAt (c .delays) whole (length ta) ≡ read (suc (length ta + length tb)) vd
-  unfolding depthsAt
-  read-depths =
-      let m : manyAt (c .delays) depthForm whole (length ta) ≡ ran (c .delays) (length ta + length tb) vd =
-      rw as-head (many-back depthForm (10 ∷ (tc ++ q)) depth-parted refl (c .delays) vd ta depths-count (ok .depths)) in
-      let l : length (ta ++ tb) ≡ length ta + length tb = length-append ta tb in
-      let b : byteAt whole (length ta + length tb) ≡ 10 = rw (as-end, ← l) (byte-seam (ta ++ tb) 10 (tc ++ q)) in
-      rw (m, b)
+    read-depths : depthsAt (c .delays) (ta ++ (tb ++ x)) (length ta) ≡ record { tail = tailAt (ta ++ (tb ++ x)) (length ta + length tb); vals = vd }
+    unfolding depthsAt
+    read-depths =
+        rw (many-back depthForm x depth-parted (and-i (stops x) true st refl) (c .delays) vd ta depths-count (ok .depths))
 
-  read-soil : manyAt (c .cells) soilForm whole (suc (length ta + length tb)) ≡ ran (c .cells) (suc (length ta + length tb) + length tc) soil
-  read-soil =
-      let l : length ((ta ++ tb) ++ (10 ∷ [])) ≡ suc (length ta + length tb) = simp length-append (omega arith) in
-      rw (as-soil, ← l) (many-back soilForm q (λ vs x. refl) refl (c .cells) soil ((ta ++ tb) ++ (10 ∷ [])) (ok .long) (ok .rows))
+  -- [5] the share that a card has unsaid, written out: line 1 is malformed
+  pub share-said : (x : List ℕ) → stops x ≡ true → parse ((ta ++ tb) ++ (formText shareForm (pos unsaidShare ∷ []) ++ x)) ≡ badLine 1
+  unfolding parse tailAt
+  share-said x st =
+      let y : List ℕ = formText shareForm (pos unsaidShare ∷ []) ++ x in
+      let sy : stops y ≡ true = apart-stops shareForm (pos unsaidShare ∷ []) x refl in
+      let k = key-default shareForm unsaidShare refl refl (ta ++ tb) x (omega arith) (and-i (stops x) true st refl) in
+      let k′ = rw (append-assoc ta tb y, length-append ta tb) at k in
+      rw (append-assoc ta tb y, read-head y sy, read-depths y sy, k′)
 
-  whole-length : suc (length ta + length tb) + length tc ≡ length (ta ++ (tb ++ (10 ∷ tc)))
-  whole-length = simp length-append (omega arith)
+  abbrev te : List ℕ
+  te = tailText (c .share)
+
+  abbrev tc : List ℕ
+  tc = rowsText (c .cells) soilForm soil
+
+  module _ (q : List ℕ) where
+    abbrev whole : List ℕ
+    whole = ta ++ (tb ++ (te ++ (tc ++ q)))
+
+    as-parts : (ta ++ (tb ++ (te ++ tc))) ++ q ≡ whole
+    as-parts = append-assoc ta (tb ++ (te ++ tc)) q ∙ ap (λ (x : List ℕ). ta ++ x) (append-assoc tb (te ++ tc) q ∙ ap (λ (x : List ℕ). tb ++ x) (append-assoc te tc q))
+
+    as-end : whole ≡ (ta ++ tb) ++ (te ++ (tc ++ q))
+    as-end = sym (append-assoc ta tb (te ++ (tc ++ q)))
+
+    as-soil : whole ≡ ((ta ++ tb) ++ te) ++ (tc ++ q)
+    as-soil = as-end ∙ sym (append-assoc (ta ++ tb) te (tc ++ q))
+
+    read-tail : tailAt whole (length ta + length tb) ≡ record { ok = true; next = length ta + length tb + length te; share = c .share }
+    read-tail =
+        let l : length (ta ++ tb) ≡ length ta + length tb = length-append ta tb in
+        rw (as-end, ← l) (tail-back (c .share) (tc ++ q) (ta ++ tb) (ok .share))
+
+    read-soil : manyAt (c .cells) soilForm whole (length ta + length tb + length te) ≡ ran (c .cells) (length ta + length tb + length te + length tc) soil
+    read-soil =
+        let l : length ((ta ++ tb) ++ te) ≡ length ta + length tb + length te = simp length-append (omega arith) in
+        rw (as-soil, ← l) (many-back soilForm q (λ vs x. refl) refl (c .cells) soil ((ta ++ tb) ++ te) (ok .long) (ok .rows))
+
+    whole-length : length ta + length tb + length te + length tc ≡ length (ta ++ (tb ++ (te ++ tc)))
+    whole-length = simp length-append (omega arith)
 
 -- the text of a card is read back, whatever bytes stand behind it
 pub card-back : (c : Card) (soil : List ℤ) (q : List ℕ) → CardFits c soil
     → parse (cardText c soil ++ q) ≡ record { line = 0; next = length (cardText c soil); card = c; soil = soil }
 unfolding parse cardText cardParts
 card-back c soil q ok =
-    rw (read-head c soil q ok, read-depths c soil q ok, read-soil c soil q ok, ok .unused)
-    (ap (λ (n : ℕ). record { line = 0; next = n; card = c; soil = soil }) (whole-length c soil q ok))
+    let x : List ℕ = tailText (c .share) ++ (rowsText (c .cells) soilForm soil ++ q) in
+    let st : stops x ≡ true = tail-stops (c .share) (rowsText (c .cells) soilForm soil ++ q) in
+    rw (as-parts c soil ok q, read-head c soil ok x st, read-depths c soil ok x st, read-tail c soil ok q, read-soil c soil ok q, ok .unused)
+    (ap (λ (n : ℕ). record { line = 0; next = n; card = c; soil = soil }) (whole-length c soil ok q))
+
+-- [5] a card with the share that is not said has the text that cards had before there was a share
+pub text-unsaid : (c : Card) (soil : List ℤ) → c .share ≡ unsaidShare
+    → cardText c soil
+    ≡ formText cardForm (pos (c .cells) ∷ pos (c .delays) ∷ []) ++ (rowsText (c .delays) depthForm (map pos (take (c .delays) (c .depths))) ++ (10 ∷ rowsText (c .cells) soilForm soil))
+unfolding cardText cardParts tailText
+text-unsaid c soil e = rw (text-none shareForm unsaidShare (c .share) e)
 
 -- ---- writing
-pub parts-length : (h : List ℤ) (m : ℕ) (ds : List ℤ) (n : ℕ) (soil : List ℤ)
-    → length (cardParts h m ds n soil) ≡ length (formText cardForm h) + (length (rowsText m depthForm ds) + suc (length (rowsText n soilForm soil)))
-unfolding cardParts
-parts-length h m ds n soil = simp length-append
+pub tail-length : (share : ℕ) → length (tailText share) ≡ length (keyText shareForm unsaidShare share) + 1
+unfolding tailText
+tail-length share = length-append (keyText shareForm unsaidShare share) (10 ∷ [])
 
-pub parts-put : (h : List ℤ) (m : ℕ) (ds : List ℤ) (n : ℕ) (soil : List ℤ) (b0 b1 b2 b3 : List ℕ) (a i : ℕ)
-    → b1 ≡ sets b0 0 (formText cardForm h) → a ≡ 0 + length (formText cardForm h)
-    → b2 ≡ sets b1 a (rowsText m depthForm ds) → i ≡ a + length (rowsText m depthForm ds)
-    → b3 ≡ sets (set b2 i 10) (i + 1) (rowsText n soilForm soil)
-    → b3 ≡ sets b0 0 (cardParts h m ds n soil)
-unfolding cardParts
-parts-put h m ds n soil b0 b1 b2 b3 a i e1 ea e2 ei e3 =
-    let r : List ℕ = rowsText n soilForm soil in
-    (rw (add-one i) at e3)
-    ∙ sets-step b1 a (rowsText m depthForm ds) (10 ∷ r) e2 ei refl
-    ∙ sets-step b0 0 (formText cardForm h) (rowsText m depthForm ds ++ (10 ∷ r)) e1 ea refl
+pub tail-put : (share : ℕ) (b0 b1 : List ℕ) (at i : ℕ) → b1 ≡ sets b0 at (keyText shareForm unsaidShare share) → i ≡ at + length (keyText shareForm unsaidShare share)
+    → set b1 i 10 ≡ sets b0 at (tailText share)
+unfolding tailText
+tail-put share b0 b1 at i e1 ei = sets-step b0 at (keyText shareForm unsaidShare share) (10 ∷ []) e1 ei refl
+
+module _ (h : List ℤ) (m : ℕ) (ds : List ℤ) (share n : ℕ) (soil : List ℤ) where
+  pub parts-length : length (cardParts h m ds share n soil)
+      ≡ length (formText cardForm h) + (length (rowsText m depthForm ds) + (length (tailText share) + length (rowsText n soilForm soil)))
+  unfolding cardParts
+  parts-length = simp length-append
+
+  pub parts-put : (b0 b1 b2 b3 b4 : List ℕ) (a i j : ℕ)
+      → b1 ≡ sets b0 0 (formText cardForm h) → a ≡ 0 + length (formText cardForm h)
+      → b2 ≡ sets b1 a (rowsText m depthForm ds) → i ≡ a + length (rowsText m depthForm ds)
+      → b3 ≡ sets b2 i (tailText share) → j ≡ i + length (tailText share)
+      → b4 ≡ sets b3 j (rowsText n soilForm soil)
+      → b4 ≡ sets b0 0 (cardParts h m ds share n soil)
+  unfolding cardParts
+  parts-put b0 b1 b2 b3 b4 a i j e1 ea e2 ei e3 ej e4 =
+      let r : List ℕ = rowsText n soilForm soil in
+      e4 ∙ sets-step b2 i (tailText share) r e3 ej refl
+      ∙ sets-step b1 a (rowsText m depthForm ds) (tailText share ++ r) e2 ei refl
+      ∙ sets-step b0 0 (formText cardForm h) (rowsText m depthForm ds ++ (tailText share ++ r)) e1 ea refl
 
 pub vals-turn : (v : List ℤ) (d : List ℕ) (k : ℕ) (z : ℤ) → k < length d → z ≡ pos (getD d k 0)
     → sets v k (map pos (drop k d)) ≡ sets (set v k z) (k + 1) (map pos (drop (k + 1) d))
@@ -279,7 +375,7 @@ unfolding hasText
 text-unused c e = and-2 (countsOk (c .cells) (c .delays)) (noneOf (drop (c .delays) (c .depths))) e
 
 parts-text : (c : Card) (soil : List ℤ) → c .delays ≤ length (c .depths)
-    → cardParts (pos (c .cells) ∷ pos (c .delays) ∷ []) (c .delays) (map pos (c .depths)) (c .cells) soil ≡ cardText c soil
+    → cardParts (pos (c .cells) ∷ pos (c .delays) ∷ []) (c .delays) (map pos (c .depths)) (c .share) (c .cells) soil ≡ cardText c soil
 unfolding cardParts cardText
 parts-text c soil h =
     let m : ℕ = c .delays in
@@ -287,7 +383,7 @@ parts-text c soil h =
     let b : List ℕ = drop m (c .depths) in
     let l : length (map pos a) ≡ m * 1 = length-map a pos ∙ length-take-le m (c .depths) h ∙ omega arith in
     let e : map pos (c .depths) ≡ map pos a ++ map pos b = ap (map pos) (sym (take-append-drop m (c .depths))) ∙ map-append pos a b in
-    ap (λ (x : List ℕ). formText cardForm (pos (c .cells) ∷ pos (c .delays) ∷ []) ++ (x ++ (10 ∷ rowsText (c .cells) soilForm soil)))
+    ap (λ (x : List ℕ). formText cardForm (pos (c .cells) ∷ pos (c .delays) ∷ []) ++ (x ++ (tailText (c .share) ++ rowsText (c .cells) soilForm soil)))
     (ap (rowsText m depthForm) e ∙ rows-front m depthForm (map pos a) (map pos b) l)
 
 module _ (c : Card) (soil : List ℤ) (b : List ℕ) where
@@ -309,14 +405,14 @@ module _ (c : Card) (soil : List ℤ) (b : List ℕ) where
       wrote-odd f = writes-none _ _ _ malformed (omega arith) (rw (g, eq-eqb _ _ h, f))
 
       module _ (f : manyFit (c .cells) soilForm soil ≡ true) (d : c .delays ≤ length (c .depths)) (n : ℕ)
-          (e : n ≡ length (cardParts (pos (c .cells) ∷ pos (c .delays) ∷ []) (c .delays) (map pos (c .depths)) (c .cells) soil)) where
+          (e : n ≡ length (cardParts (pos (c .cells) ∷ pos (c .delays) ∷ []) (c .delays) (map pos (c .depths)) (c .share) (c .cells) soil)) where
         e′ : n ≡ length (cardText c soil)
         e′ = e ∙ ap length (parts-text c soil d)
 
         pub wrote-short : length b < n → Refuses malformed
         wrote-short k = writes-none _ _ _ malformed (omega arith) (rw (g, eq-eqb _ _ h, f, no-room (cardText c soil) b n e′ k))
 
-        pub wrote-all : (l : List ℕ) → n ≤ length b → l ≡ sets b 0 (cardParts (pos (c .cells) ∷ pos (c .delays) ∷ []) (c .delays) (map pos (c .depths)) (c .cells) soil)
+        pub wrote-all : (l : List ℕ) → n ≤ length b → l ≡ sets b 0 (cardParts (pos (c .cells) ∷ pos (c .delays) ∷ []) (c .delays) (map pos (c .depths)) (c .share) (c .cells) soil)
             → Gives (record { number = 0; len = n }) l
         wrote-all l k p = writes-all _ _ _ l n (rw (g, eq-eqb _ _ h, f, has-room (cardText c soil) b n e′ k)) e′ k (p ∙ ap (sets b 0) (parts-text c soil d))
 
@@ -357,8 +453,8 @@ small-back [] e = refl
 small-back (x ∷ ds) e =
     rw (and-1 (ltb x 4294967296) (allSmall (map pos ds)) e, small-back ds (and-2 (ltb x 4294967296) (allSmall (map pos ds)) e))
 
-pub card-fits : (c : Card) (soil : List ℤ) → hasText c ≡ true → length soil ≡ c .cells * 5 → manyFit (c .cells) soilForm soil ≡ true → length (c .depths) ≡ 30 → allSmall (map pos (c .depths)) ≡ true → CardFits c soil
-card-fits c soil g n o l a =
+pub card-fits : (c : Card) (soil : List ℤ) → hasText c ≡ true → length soil ≡ c .cells * 5 → manyFit (c .cells) soilForm soil ≡ true → length (c .depths) ≡ 30 → allSmall (map pos (c .depths)) ≡ true → c .share < 4294967296 → CardFits c soil
+card-fits c soil g n o l a sh =
     let (so, mo, fe) = text-counts c g in
     let m : ℕ = c .delays in
     let t : List ℕ = take m (c .depths) in
@@ -377,6 +473,7 @@ card-fits c soil g n o l a =
       few = fe;
       depths = rows-small m depthForm (map pos t) refl at;
       unused = rw (e, map-append wordOf (map pos t) r, small-back t at, k) (take-append-drop m (c .depths));
+      share = sh;
       long = n;
       rows = o;
     }
@@ -403,11 +500,11 @@ card-has-text s e =
     let d = depthsIn s in
     let hr = head-one s (g .0) in
     let dr = depths-one (h .delays) s (h .next) (hr .room) (g .1) in
-    let mr = many-one (h .cells) soilForm s (d .next) refl (dr .room) (g .2) in
+    let mr = many-one (h .cells) soilForm s (d .tail .next) refl (dr .room) (g .2) in
     let u : noneOf (drop (h .delays) (map wordOf (sets (replicate 30 (pos 0)) 0 (d .vals)))) ≡ true = rw (dr .count) at (unused-zero (d .vals) (omega (arith, dr .count, hr .few))) in
     rw (g .0, g .1, g .2) (
       rw (counts-ok (h .cells) (h .delays) (hr .some) (hr .most) (hr .few)) u,
-      many-length (h .cells) soilForm s (d .next) (g .2),
+      many-length (h .cells) soilForm s (d .tail .next) (g .2),
       mr .fits,
     )
 
@@ -419,7 +516,7 @@ card-next s e =
     let h = countsIn s in
     let hr = head-one s (g .0) in
     let dr = depths-one (h .delays) s (h .next) (hr .room) (g .1) in
-    rw (g .0, g .1, g .2) (many-one (h .cells) soilForm s (depthsIn s .next) refl (dr .room) (g .2) .room)
+    rw (g .0, g .1, g .2) (many-one (h .cells) soilForm s (depthsIn s .tail .next) refl (dr .room) (g .2) .room)
 
 -- ---- a card read with room for 256 cells: its line is the text's, and a good one comes with all of its soil numbers
 module _ (s : List ℕ) (b : List ℤ) (room : 1280 ≤ length b) where

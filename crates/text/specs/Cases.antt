@@ -1,6 +1,6 @@
 -- Document 01's example, line by line, computed over the definitions; and texts that are malformed. Assumes nothing.
 use mathlib.Core.Path.{_≡_, refl}
-use mathlib.Core.List.{List, [], _∷_}
+use mathlib.Core.List.{List, [], _∷_, _++_}
 use Prim.Native.Nat.{ℕ}
 use Prim.Native.String.{String}
 use lib.IntN.{ℤ, pos, negsuc}
@@ -11,6 +11,7 @@ use Rattle.form.specs.Dec.{dec, decF, numAt, numStart, numGo}
 use Rattle.form.specs.Hex.{hex, hexAt, hexGo}
 use Rattle.form.specs.Form.{byteAt, valAt, valText, formAt, formText}
 use Rattle.form.specs.Many.{manyAt, rowsText}
+use Rattle.form.specs.Keys.{keyAt, keyText}
 use Rattle.cell.specs.declared.Answer.the-variants.{Accepted, Refused}
 use Rattle.cell.specs.declared.Card.{Card}
 use Rattle.cell.specs.declared.Refusal.the-variants.{Old}
@@ -18,12 +19,12 @@ use Rattle.cell.specs.Ranges.{countsOk}
 use Rattle.cell.specs.Water.{water, net}
 use Rattle.text.specs.Readings.{readReading}
 use Rattle.text.specs.Voids.{voidText, readVoid, readEntry}
-use Rattle.text.specs.Cards.{parse, countsOf, rangeCounts, depthsAt, cardText, cardParts}
+use Rattle.text.specs.Cards.{parse, countsOf, rangeCounts, tailAt, depthsAt, tailText, cardText, cardParts}
 use Rattle.text.specs.Printed.{answerText, lineText, sheetText}
 
 -- the card
 pub card : Card
-card = record { cells = 1; delays = 2; depths = 1000000 ∷ 2000000 ∷ replicate 28 0 }
+card = record { cells = 1; delays = 2; depths = 1000000 ∷ 2000000 ∷ replicate 28 0; share = 20 }
 
 pub soil : List ℤ
 soil = pos 10000000 ∷ pos 1500000 ∷ pos 200 ∷ pos 100000 ∷ pos 80 ∷ []
@@ -32,12 +33,48 @@ pub card-line : List ℕ
 card-line = bytes "cells=1 delays=2 depth=1000000 depth=2000000\ntop=10000000 etdepth=1500000 vadpor=200 leak=100000 cn=80\n"
 
 pub card-text : cardText card soil ≡ card-line
-unfolding card soil card-line cardText cardParts formText rowsText valText dec decF
+unfolding card soil card-line cardText cardParts tailText keyText formText rowsText valText dec decF
 card-text = refl
 
 pub card-read : (parse card-line .line ≡ 0) × (parse card-line .card ≡ card) × (parse card-line .soil ≡ soil)
-unfolding card soil card-line parse countsOf rangeCounts countsOk depthsAt manyAt formAt valAt byteAt numAt numStart numGo hexAt hexGo
+unfolding card soil card-line parse countsOf rangeCounts countsOk depthsAt tailAt keyAt manyAt formAt valAt byteAt numAt numStart numGo hexAt hexGo
 card-read = (refl, refl, refl)
+
+-- [5] a card that says its share, with depths and without, there and back
+abbrev said : ℕ → Card
+said share = record { cells = 1; delays = 0; depths = replicate 30 0; share = share }
+
+-- the malformed line of a card with this first line, 0 where there is none, and its share
+abbrev line-and-share : String → ℕ × ℕ
+line-and-share first = let p = parse (bytes first ++ bytes "\ntop=10000000 etdepth=1500000 vadpor=200 leak=100000 cn=80\n") in (p .line, p .card .share)
+
+pub shares : (line-and-share "cells=1 delays=2 depth=1000000 depth=2000000" ≡ (0, 20))
+    × (line-and-share "cells=1 delays=2 depth=1000000 depth=2000000 share=5" ≡ (0, 5))
+    × (line-and-share "cells=1 delays=0" ≡ (0, 20))
+    × (line-and-share "cells=1 delays=0 share=5" ≡ (0, 5))
+    × (line-and-share "cells=1 delays=0 share=0" ≡ (0, 0))
+    × (line-and-share "cells=1 delays=0 share=21" ≡ (0, 21))
+    × (line-and-share "cells=1 delays=0 share=4294967295" ≡ (0, 4294967295))
+unfolding parse countsOf rangeCounts countsOk depthsAt tailAt keyAt manyAt formAt valAt byteAt numAt numStart numGo hexAt hexGo
+shares = (refl, refl, refl, refl, refl, refl, refl)
+
+-- 20 said, a leading zero, a minus, no number, 33 bits, a second share, a share before the depths, and another key's name are malformed
+pub malformed-shares : (line-and-share "cells=1 delays=0 share=20" ≡ (1, 0))
+    × (line-and-share "cells=1 delays=0 share=05" ≡ (1, 0))
+    × (line-and-share "cells=1 delays=0 share=-5" ≡ (1, 0))
+    × (line-and-share "cells=1 delays=0 share=" ≡ (1, 0))
+    × (line-and-share "cells=1 delays=0 share=4294967296" ≡ (1, 0))
+    × (line-and-share "cells=1 delays=0 share=5 share=6" ≡ (1, 0))
+    × (line-and-share "cells=1 delays=1 share=5 depth=1000000" ≡ (1, 0))
+    × (line-and-share "cells=1 delays=0 shape=5" ≡ (1, 0))
+    × (line-and-share "cells=1 delays=0 share=5 " ≡ (1, 0))
+unfolding parse countsOf rangeCounts countsOk depthsAt tailAt keyAt manyAt formAt valAt byteAt numAt numStart numGo hexAt hexGo
+malformed-shares = (refl, refl, refl, refl, refl, refl, refl, refl, refl)
+
+pub share-texts : (cardText (said 5) soil ≡ bytes "cells=1 delays=0 share=5\ntop=10000000 etdepth=1500000 vadpor=200 leak=100000 cn=80\n")
+    × (cardText (said 20) soil ≡ bytes "cells=1 delays=0\ntop=10000000 etdepth=1500000 vadpor=200 leak=100000 cn=80\n")
+unfolding soil cardText cardParts tailText keyText formText rowsText valText dec decF
+share-texts = (refl, refl)
 
 -- the first reading
 pub first-reading : List ℕ

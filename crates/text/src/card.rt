@@ -1,18 +1,19 @@
 // A card as text: one line, then a line per cell.
 ghost use mathlib.Core.Path.{_≡_};
 ghost use mathlib.Core.List.{[], _∷_, map};
-ghost use Prim.Native.Nat.{_*_, _≤_};
+ghost use Prim.Native.Nat.{_+_, _*_, _≤_};
 ghost use lib.IntN.{pos};
 ghost use lib.ListN.{length, drop};
 ghost use lib.Seq.{sets};
 ghost use Rattle.cell.specs.Ranges.{countsOk, noneOf};
-ghost use Rattle.form.specs.Form.{takenOf};
 ghost use Rattle.form.specs.Words.{wordOf};
-ghost use Rattle.text.specs.Cards.{rangeCounts, countsOf, depthsAt, refusedCard, parse, cardResult, soilResult, cardText, hasText, cardParts, cardChecks};
+ghost use Rattle.text.specs.Cards.{rangeCounts, countsOf, noTail, tailAt, depthsAt, refusedCard, parse, cardResult, soilResult, tailText, cardText, hasText, cardParts, cardChecks};
 ghost use Rattle.text.specs.Written.{Writes};
 use crate::Written;
 use cell::Card;
-use form::line::Taken;
+use form::keys::key_len;
+use form::keys::put_key;
+use form::keys::read_key;
 use form::line::form_len;
 use form::line::put_form;
 use form::line::read_form;
@@ -27,6 +28,10 @@ use form::words::word_at;
 const CARD: [u8; 16] = *b"cells=# delays=#";
 
 const DEPTH: [u8; 8] = *b" depth=#";
+
+const SHARE: [u8; 8] = *b" share=#";
+
+const UNSAID_SHARE: u32 = 20;
 
 const SOIL: [u8; 37] = *b"top=$ etdepth=# vadpor=# leak=# cn=#\n";
 
@@ -98,24 +103,54 @@ fn card_counts(s: &[u8]) -> Counts
     }
 }
 
-// The n depths of the first line and its end, from `from` on.
-fn card_depths(s: &[u8], from: usize, n: usize, v: &mut [i64]) -> Taken
+// [5] The rest of the first line: the share, and the place after the line's end.
+pub struct Tail {
+    pub ok: bool,
+    pub next: usize,
+    pub share: u32,
+}
+
+fn no_tail() -> Tail
+    ensures { λ r. ⌜ r ≡ noTail ⌝ }
+{
+    Tail {
+        ok: false,
+        next: 0,
+        share: 0,
+    }
+}
+
+fn card_tail(s: &[u8], at: usize) -> Tail
+    ensures { λ r. ⌜ r ≡ tailAt (now (s .entry)) at ⌝ }
+{
+    let share = read_key(s, at, &SHARE, UNSAID_SHARE);
+    let ok = share.ok;
+    if ok {
+        let end = share.next;
+        if byte_at(s, end) == 10 {
+            return Tail {
+                ok: true,
+                next: end + 1,
+                share: share.word,
+            };
+        }
+        return no_tail();
+    }
+    no_tail()
+}
+
+// The n depths of the first line and its rest, from `from` on.
+fn card_depths(s: &[u8], from: usize, n: usize, v: &mut [i64]) -> Tail
     requires { ⌜ n ≤ length (now v) ⌝ }
-    ensures { λ r. ⌜ (r ≡ takenOf (depthsAt n (now (s .entry)) from))
+    ensures { λ r. ⌜ (r ≡ depthsAt n (now (s .entry)) from .tail)
         × (now (v .exit) ≡ sets (now (v .entry)) 0 (depthsAt n (now (s .entry)) from .vals)) ⌝ }
 {
     let d = read_many(s, from, &DEPTH, 1, n, v, 0);
     let ok = d.ok;
     if ok {
-        let at = d.next;
-        if byte_at(s, at) == 10 {
-            return Taken {
-                ok: true,
-                next: at + 1,
-            };
-        }
+        return card_tail(s, d.next);
     }
-    Taken { ok: false, next: 0 }
+    no_tail()
 }
 
 // Each value as 32 bits.
@@ -143,6 +178,7 @@ fn refuse(number: u32, line: usize) -> CardRead
             cells: 0,
             delays: 0,
             depths: [0u32; 30],
+            share: 0,
         },
     }
 }
@@ -176,6 +212,7 @@ pub fn read(s: &[u8], soil: &mut [i64]) -> CardRead
                         cells: h.cells,
                         delays: h.delays,
                         depths,
+                        share: t.share,
                     },
                 };
             }
@@ -232,27 +269,53 @@ fn has_text(card: Card) -> bool
     false
 }
 
-// The length of a card's text: the first line's values h, m depths ds and n rows of soil.
-fn card_len(h: &[i64], m: usize, ds: &[i64], n: usize, soil: &[i64]) -> usize
+// The length of the text of the first line's rest.
+fn tail_len(share: u32) -> usize
+    ensures { λ r. ⌜ (r ≡ length (tailText share)) × (r ≤ 200) ⌝ }
+{
+    key_len(&SHARE, UNSAID_SHARE, share) + 1
+}
+
+// Writes the first line's rest from `at` on, and returns the place after it.
+fn put_tail(share: u32, buf: &mut [u8], at: usize) -> usize
+    requires { ⌜ at + length (tailText share) ≤ length (now buf) ⌝ }
+    ensures { λ r. ⌜ (r ≡ at + length (tailText share)) × (now (buf .exit) ≡ sets (now (buf .entry)) at (tailText share)) ⌝ }
+{
+    let end = put_key(&SHARE, UNSAID_SHARE, share, buf, at);
+    buf[end] = 10;
+    end + 1
+}
+
+// The length of a card's text: the first line's values h, m depths ds, its rest, and n rows of soil.
+fn card_len(h: &[i64], m: usize, ds: &[i64], share: u32, n: usize, soil: &[i64]) -> usize
     requires { ⌜ (length (now h) ≡ 2) × (m ≤ 30) × (length (now ds) ≡ 30) × (n ≤ 256) × (length (now soil) ≡ n * 5) ⌝ }
-    ensures { λ r. ⌜ r ≡ length (cardParts (now (h .entry)) m (now (ds .entry)) n (now (soil .entry))) ⌝ }
+    ensures { λ r. ⌜ r ≡ length (cardParts (now (h .entry)) m (now (ds .entry)) share n (now (soil .entry))) ⌝ }
 {
     let a = form_len(&CARD, h, 0);
     let b = many_len(&DEPTH, 1, m, ds, 0);
+    let t = tail_len(share);
     let c = many_len(&SOIL, 5, n, soil, 0);
-    a + b + 1 + c
+    a + b + t + c
 }
 
 // Writes a card's text at the start of buf.
-fn put_card(h: &[i64], m: usize, ds: &[i64], n: usize, soil: &[i64], buf: &mut [u8])
+fn put_card(
+    h: &[i64],
+    m: usize,
+    ds: &[i64],
+    share: u32,
+    n: usize,
+    soil: &[i64],
+    buf: &mut [u8],
+)
     requires { ⌜ (length (now h) ≡ 2) × (m ≤ 30) × (length (now ds) ≡ 30) × (n ≤ 256) × (length (now soil) ≡ n * 5)
-        × (length (cardParts (now h) m (now ds) n (now soil)) ≤ length (now buf)) ⌝ }
-    ensures { λ _. ⌜ now (buf .exit) ≡ sets (now (buf .entry)) 0 (cardParts (now (h .entry)) m (now (ds .entry)) n (now (soil .entry))) ⌝ }
+        × (length (cardParts (now h) m (now ds) share n (now soil)) ≤ length (now buf)) ⌝ }
+    ensures { λ _. ⌜ now (buf .exit) ≡ sets (now (buf .entry)) 0 (cardParts (now (h .entry)) m (now (ds .entry)) share n (now (soil .entry))) ⌝ }
 {
     let a = put_form(&CARD, h, 0, buf, 0);
     let b = put_many(&DEPTH, 1, m, ds, 0, buf, a);
-    buf[b] = 10;
-    put_many(&SOIL, 5, n, soil, 0, buf, b + 1);
+    let t = put_tail(share, buf, b);
+    put_many(&SOIL, 5, n, soil, 0, buf, t);
 }
 
 // Writes a card with its soil numbers at the start of buf.
@@ -267,11 +330,11 @@ pub fn write(card: Card, soil: &[i64], buf: &mut [u8]) -> Written
                 let d = card.depths;
                 let h = count_values(card.cells, card.delays);
                 let ds = depth_values(&d);
-                let len = card_len(&h, m, &ds, n, soil);
+                let len = card_len(&h, m, &ds, card.share, n, soil);
                 if buf.len() < len {
                     return Written { number: 12, len: 0 };
                 }
-                put_card(&h, m, &ds, n, soil, buf);
+                put_card(&h, m, &ds, card.share, n, soil, buf);
                 return Written { number: 0, len };
             }
             return Written { number: 12, len: 0 };

@@ -1,11 +1,10 @@
 -- `text::card::card_len` meets its contract. Assumes nothing.
 use native.Mathlib.Omega.{arith}
 use denote.Ref.{now}
-use Prim.Native.Nat.{_-_}
+use Rattle.text.specs.CardTexts.{parts-length}
 use borrow.Author.Needs.{needs}
 use Rattle.text.proofs.card.card_len.Statement.{statement}
 use Rattle.text.proofs.card.card_len.Tie as tie
-use Rattle.text.specs.CardTexts.{parts-length}
 
 slice-aggregate-form-len : tie.Need-slice-aggregate-form-len
 slice-aggregate-form-len c = search needs
@@ -18,6 +17,9 @@ slice-aggregate-many-len c = search needs
 
 many-len-requires : tie.Need-many-len-requires
 many-len-requires c κs = search needs
+
+tail-len-requires : tie.Need-tail-len-requires
+tail-len-requires c κs = search needs
 
 slice-aggregate-many-len-2 : tie.Need-slice-aggregate-many-len-2
 slice-aggregate-many-len-2 c = search needs
@@ -36,8 +38,8 @@ add-result-3 c = search needs
 
 returns : tie.Need-returns
 returns c =
-    let a = c .before .before .before .before .before .before .args in
-    omega (arith, parts-length (now (a .h)) (a .m) (now (a .ds)) (a .n) (now (a .soil)), c .before .before .before .before .form-len .ensures .0, c .before .before .many-len .ensures .0, c .many-len2 .ensures .0)
+    let a = c .before .before .before .before .before .before .before .args in
+    omega (arith, parts-length (now (a .h)) (a .m) (now (a .ds)) (a .share) (a .n) (now (a .soil)), c .before .before .before .before .before .form-len .ensures .0, c .before .before .before .many-len .ensures .0, c .before .before .tail-len .ensures .0, c .many-len2 .ensures .0)
 
 pub card-len-spec : {M : Type 1} → statement M
 card-len-spec =
@@ -47,6 +49,7 @@ card-len-spec =
     form-len-requires
     slice-aggregate-many-len
     many-len-requires
+    tail-len-requires
     slice-aggregate-many-len-2
     many-len-requires-2
     add-result

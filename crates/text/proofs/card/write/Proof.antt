@@ -57,7 +57,7 @@ card-len-requires c κs =
 returns : tie.Need-returns
 returns c =
     let a = c .before .before .before .before .before .before .before .before .before .before .before .before .before .before .before .before .before .args in
-    let L : length (a .card .depths) ≡ 30 = search needs in
+    let L = long (c .before .before .before .before .before) in
     let t : hasText (a .card) ≡ true = sym (c .before .before .before .before .before .before .before .before .before .before .before .before .before .before .before .has-text .ensures) ∙ c .before .before .before .before .before .before .before .before .before .before .before .before .before .before .if1 .taken in
     let f : manyFit (a .card .cells) soilForm (now (a .soil)) ≡ true = rw (← c .before .before .before .before .before .before .before .before .before .before .many-fit .ensures) (c .before .before .before .before .before .before .before .before .before .if3 .taken) in
     let n = rw (c .before .before .before .before .before .before .count-values .ensures, c .before .before .before .before .depth-values .ensures) at (c .before .card-len .ensures) in
