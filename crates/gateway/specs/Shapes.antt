@@ -1,10 +1,10 @@
 -- The records as rows of numbers, as a host hands them over. Definitions only.
 use Prim.Native.Nat.{ℕ, suc}
 use mathlib.Core.Bool.{Bool, true, not, _&&_, _||_}
-use mathlib.Core.List.{List, [], _∷_}
+use mathlib.Core.List.{List, [], _∷_, _++_}
 use lib.Dec.{eqb}
 use lib.IntN.{ℤ, pos, natAbs}
-use lib.ListN.{drop, getD}
+use lib.ListN.{take, drop, getD}
 use mir.Syntax.{w64}
 use mir.Val.{SFits}
 use Rattle.form.specs.Signed.{isNeg}
@@ -15,15 +15,15 @@ use Rattle.cell.specs.declared.Water.{Water}
 use Rattle.cell.specs.Water.{water, net}
 use Rattle.site.specs.declared.Sheet.{Sheet}
 
--- a card: cells, delays, 30 delay depths
+-- a card: cells, delays, 30 delay depths, [5] share
 abbrev pub cardWidth : ℕ
-cardWidth = 32
+cardWidth = 33
 
 unfoldable pub cardFrom : List ℕ → Card
-cardFrom l = record { cells = getD l 0 0; delays = getD l 1 0; depths = drop 2 l }
+cardFrom l = record { cells = getD l 0 0; delays = getD l 1 0; depths = take 30 (drop 2 l); share = getD l 32 0 }
 
 unfoldable pub cardNumbers : Card → List ℕ
-cardNumbers c = c .cells ∷ c .delays ∷ c .depths
+cardNumbers c = c .cells ∷ c .delays ∷ (c .depths ++ (c .share ∷ []))
 
 -- the ten amounts: inflow, runoff, etvad, etstor, etsat, drain, release, stored, recharge, left
 abbrev pub amountsWidth : ℕ

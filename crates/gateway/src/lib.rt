@@ -21,7 +21,7 @@ pub extern "C" fn waterbook_step(
 ) -> u32
     ensures { λ n. ⌜ Steps (now (card .entry)) (now (soil .entry)) (now (rows .entry)) (now (reading .entry)) (now (amounts .entry)) n (now (rows .exit)) (now (amounts .exit)) ⌝ }
 {
-    if card.len() != 32 {
+    if card.len() != 33 {
         return 255;
     }
     if reading.len() != 10 {
@@ -50,7 +50,7 @@ pub extern "C" fn waterbook_void(
 ) -> u32
     ensures { λ n. ⌜ Voids (now (card .entry)) (now (soil .entry)) (now (rows .entry)) (now (notice .entry)) (now (amounts .entry)) n (now (rows .exit)) (now (amounts .exit)) ⌝ }
 {
-    if card.len() != 32 {
+    if card.len() != 33 {
         return 255;
     }
     if notice.len() != 3 {
@@ -83,7 +83,7 @@ fn give(card: Card, soil: &[i64], rows: &mut [u32], e: Entry, amounts: &mut [i64
 pub extern "C" fn waterbook_clear(card: &[u32], rows: &mut [u32]) -> u32
     ensures { λ n. ⌜ Clears (now (card .entry)) (now (rows .entry)) n (now (rows .exit)) ⌝ }
 {
-    if card.len() != 32 {
+    if card.len() != 33 {
         return 255;
     }
     site::clear(records::card_from(card), rows)
@@ -127,7 +127,7 @@ pub extern "C" fn waterbook_read_card(
 ) -> u32
     ensures { λ n. ⌜ ReadsCard (now (text .entry)) (now (card .entry)) (now (soil .entry)) (now (got .entry)) n (now (card .exit)) (now (soil .exit)) (now (got .exit)) ⌝ }
 {
-    if card.len() != 32 {
+    if card.len() != 33 {
         return 255;
     }
     if got.len() != 2 {
@@ -150,7 +150,7 @@ pub extern "C" fn waterbook_write_card(
 ) -> u32
     ensures { λ n. ⌜ WritesCard (now (card .entry)) (now (soil .entry)) (now (buf .entry)) (now (got .entry)) n (now (buf .exit)) (now (got .exit)) ⌝ }
 {
-    if card.len() != 32 {
+    if card.len() != 33 {
         return 255;
     }
     if got.len() != 2 {

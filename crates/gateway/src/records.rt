@@ -46,25 +46,34 @@ fn negative_at(l: &[i64], i: usize) -> bool
     negative(l[i])
 }
 
-pub fn card_from(l: &[u32]) -> Card
-    requires { ⌜ length (now l) ≡ 32 ⌝ }
-    ensures { λ r. ⌜ r ≡ cardFrom (now (l .entry)) ⌝ }
+fn depths_from(l: &[u32]) -> [u32; 30]
+    requires { ⌜ length (now l) ≡ 30 ⌝ }
+    ensures { λ r. ⌜ r ≡ now (l .entry) ⌝ }
 {
     let mut depths = [0u32; 30];
     let mut k: usize = 0;
     while k < 30 {
-        depths[k] = l[k + 2];
+        depths[k] = l[k];
         k += 1;
     }
+    depths
+}
+
+pub fn card_from(l: &[u32]) -> Card
+    requires { ⌜ length (now l) ≡ 33 ⌝ }
+    ensures { λ r. ⌜ r ≡ cardFrom (now (l .entry)) ⌝ }
+{
+    let depths = depths_from(&l[2..32]);
     Card {
         cells: l[0],
         delays: l[1],
         depths,
+        share: l[32],
     }
 }
 
 pub fn put_card(c: Card, out: &mut [u32])
-    requires { ⌜ length (now out) ≡ 32 ⌝ }
+    requires { ⌜ length (now out) ≡ 33 ⌝ }
     ensures { λ _. ⌜ now (out .exit) ≡ cardNumbers c ⌝ }
 {
     let d = c.depths;
@@ -75,6 +84,7 @@ pub fn put_card(c: Card, out: &mut [u32])
         out[k + 2] = d[k];
         k += 1;
     }
+    out[32] = c.share;
 }
 
 pub fn put_amounts(a: Amounts, out: &mut [i64])

@@ -1,23 +1,27 @@
 -- `gateway::records::put_card` meets its contract. Assumes nothing.
-use lib.ListN.{length, length-set}
-use mathlib.Core.Path.{_≡_}
-use Rattle.form.specs.Put.{sets-all}
-use mathlib.Core.Path.{_∙_}
+use lib.ListN.{length, set, length-set, length-append}
+use mathlib.Core.Path.{_≡_, sym, ap, _∙_}
+use mathlib.Core.List.{List, [], _∷_, _++_}
+use Rattle.form.specs.Put.{sets-all, sets-append}
+use lib.Seq.{sets}
+use Prim.Native.Nat.{ℕ, _+_, _-_}
 use native.Mathlib.Nat.{add-zero}
+use native.Mathlib.Omega.{arith}
 use Rattle.gateway.proofs.Copies.{Copied, begin, turn, done}
 use Rattle.gateway.specs.Shapes.{cardNumbers}
-use lib.ListN.{set}
-use Prim.Native.Nat.{_-_}
-use native.Mathlib.Omega.{arith}
 use borrow.Author.Needs.{needs}
 use Rattle.gateway.proofs.records.put_card.Statement.{statement}
 use Rattle.gateway.proofs.records.put_card.Tie as tie
 
+-- the share behind the depths
+share-put : (l ds o : List ℕ) (s : ℕ) → o ≡ sets l 2 ds → length ds ≡ 30 → set o 32 s ≡ sets l 2 (ds ++ (s ∷ []))
+share-put l ds o s e h = rw e (sym (rw h at (sets-append l 2 ds (s ∷ []))))
+
 abbrev Inv-loop : tie.InvT-loop
-Inv-loop out₀ d k₀ out k = Copied out₀ d 2 0 out k
+Inv-loop c out₀ d k₀ out k = Copied out₀ d 2 0 out k
 
 abbrev μ-loop : tie.MeasureT-loop
-μ-loop out₀ d k₀ out k = 30 - k
+μ-loop c out₀ d k₀ out k = 30 - k
 
 slice-write-out : tie.Need-slice-write-out Inv-loop μ-loop
 slice-write-out c = search needs
@@ -52,12 +56,19 @@ loop-less c = omega (arith, c .loop-test .taken)
 loop-again : tie.Need-loop-again Inv-loop μ-loop
 loop-again c = let e : length (c .before .before .before .args .c .depths) ≡ 30 = search needs in rw (add-zero (c .before .loop .k)) at (turn (set (set (c .before .before .before .args .out .now) 0 (c .before .before .before .args .c .cells)) 1 (c .before .before .before .args .c .delays)) (c .before .before .before .args .c .depths) 2 0 (c .before .loop .out) (c .before .loop .k) (c .before .loop .inv) (omega (arith, c .loop-test .taken, e)))
 
+slice-write-out-4 : tie.Need-slice-write-out-4 Inv-loop μ-loop
+slice-write-out-4 c = omega (arith, c .before .loop .inv .same, length-set (set (c .before .before .before .args .out .now) 0 (c .before .before .before .args .c .cells)) 1 (c .before .before .before .args .c .delays) ∙ length-set (c .before .before .before .args .out .now) 0 (c .before .before .before .args .c .cells), c .before .before .before .pre)
+
 same-length : tie.Need-same-length Inv-loop μ-loop
-same-length c = c .before .loop .inv .same ∙ length-set (set (c .before .before .before .args .out .now) 0 (c .before .before .before .args .c .cells)) 1 (c .before .before .before .args .c .delays) ∙ length-set (c .before .before .before .args .out .now) 0 (c .before .before .before .args .c .cells)
+same-length c = simp length-set (c .before .loop .inv .same ∙ length-set (set (c .before .before .before .args .out .now) 0 (c .before .before .before .args .c .cells)) 1 (c .before .before .before .args .c .delays) ∙ length-set (c .before .before .before .args .out .now) 0 (c .before .before .before .args .c .cells))
 
 returns : tie.Need-returns Inv-loop μ-loop
 unfolding cardNumbers
-returns c = let e : length (c .before .before .before .args .c .depths) ≡ 30 = search needs in done (set (set (c .before .before .before .args .out .now) 0 (c .before .before .before .args .c .cells)) 1 (c .before .before .before .args .c .delays)) (c .before .before .before .args .c .depths) 2 0 (c .before .loop .out) (c .before .loop .k) (c .before .loop .inv) (omega (arith, c .loop-test .left, e)) ∙ sets-all (c .before .before .before .args .out .now) (cardNumbers (c .before .before .before .args .c)) (omega (arith, e, c .before .before .before .pre))
+returns c =
+    let a = c .before .before .before .args in
+    let e : length (a .c .depths) ≡ 30 = search needs in
+    share-put (set (set (a .out .now) 0 (a .c .cells)) 1 (a .c .delays)) (a .c .depths) (c .before .loop .out) (a .c .share) (done (set (set (a .out .now) 0 (a .c .cells)) 1 (a .c .delays)) (a .c .depths) 2 0 (c .before .loop .out) (c .before .loop .k) (c .before .loop .inv) (omega (arith, c .loop-test .left, e))) e
+    ∙ sets-all (a .out .now) (cardNumbers (a .c)) (omega (arith, length-append (a .c .depths) (a .c .share ∷ []), e, c .before .before .before .pre))
 
 pub put-card-spec : {M : Type 1} → statement M
 put-card-spec =
@@ -76,5 +87,6 @@ put-card-spec =
     add-k
     loop-less
     loop-again
+    slice-write-out-4
     same-length
     returns)
