@@ -3,20 +3,23 @@
 //! include/waterbook.h says in words what each number means; the order of the numbers is the same here. A record is an
 //! array of its own width, a refused call an `Err` with its [`Refusal`]. [`raw`] has the same calls over slices of any
 //! width, with the number as it comes. The library keeps nothing between calls: rows and sheet are the host's, and
-//! STORING.md says when to store them.
+//! STORING.md says when to store them. The header also says what a host of 2.x has to change for 3.0.0: a [`Card`] has
+//! 33 numbers in place of 32, the share last, and [`card`] makes one from its parts.
 //!
 //! rust/ is a package of this file: a firm's own package names it by path. Plain `rustc --edition 2024` takes this file
 //! as a module and finds the library by `-L native=target/staticlib`, after `rt staticlib gateway`; hosts/host.rs is such
 //! a host. Edition 2021 works too; 2015, which rustc takes unasked, does not.
 //!
 //! ```
-//! use waterbook::{ANSWER_TEXT, CELLS, ROW, Refusal, SHEET, SOIL};
+//! use waterbook::{ANSWER_TEXT, CELLS, ROW, Refusal, SHARE_AT, SHEET, SOIL, USUAL_SHARE};
 //!
 //! let card_text = b"cells=1 delays=1 depth=1000000\n\
 //!                   top=10000000 etdepth=1500000 vadpor=200 leak=100000 cn=80\n";
 //! let mut soil = vec![0; SOIL * CELLS];
 //! let (card, _) = waterbook::read_card(card_text, &mut soil)?;
 //! soil.truncate(SOIL * card[0] as usize);
+//! assert_eq!(card[SHARE_AT], USUAL_SHARE);
+//! assert_eq!(Ok(card), waterbook::card(1, &[1_000_000], USUAL_SHARE));
 //! let mut rows = vec![0; ROW * card[0] as usize];
 //! waterbook::clear(&card, &mut rows)?;
 //!
@@ -32,20 +35,25 @@
 //! // The same reading again is old: it changes nothing.
 //! let again = waterbook::step(&card, &soil, &mut rows, &reading);
 //! assert_eq!(again, Err(Refusal::Old));
+//!
+//! // A first loss of 5 percent of storage and not 20, from the next reading on: more of the same rain runs off.
+//! let fitted = waterbook::card(1, &[1_000_000], 5)?;
+//! let next = [0, 0, 1, 50_800, 0, 0, 2_000, 5_000, 2, 8.75f32.to_bits()];
+//! assert_eq!(waterbook::step(&fitted, &soil, &mut rows, &next)?[1], 20_410);
 //! # Ok::<(), Refusal>(())
 //! ```
 
 use core::fmt;
 
 /// The version of the library; include/waterbook.h says what raises which part.
-pub const VERSION_MAJOR: u32 = 2;
-pub const VERSION_MINOR: u32 = 1;
+pub const VERSION_MAJOR: u32 = 3;
+pub const VERSION_MINOR: u32 = 0;
 pub const VERSION_PATCH: u32 = 0;
 /// The version as one number.
 pub const VERSION: u32 = 1_000_000 * VERSION_MAJOR + 1_000 * VERSION_MINOR + VERSION_PATCH;
 
-/// Numbers on a card: cells, delays, 30 delay depths in µm.
-pub const CARD: usize = 32;
+/// Numbers on a card: cells, delays, 30 delay depths in µm, the share in percent.
+pub const CARD: usize = 33;
 /// Soil numbers per cell: top, etdepth, vadpor, leak, cn.
 pub const SOIL: usize = 5;
 /// Stored numbers per cell: life, next count, slots 1 to 30.
@@ -65,8 +73,13 @@ pub const CELLS: usize = 256;
 /// The longest journal that the book is kept of, in bytes.
 pub const LONGEST: usize = 65_536;
 
+/// The place of the share on a card.
+pub const SHARE_AT: usize = 32;
+/// The share of a card that has none of its own.
+pub const USUAL_SHARE: u32 = 20;
+
 /// The longest card text in bytes: a buffer of so many is never too short.
-pub const CARD_TEXT: usize = 24_082;
+pub const CARD_TEXT: usize = 24_099;
 /// The longest line of a reading.
 pub const READING_TEXT: usize = 161;
 /// The longest line of a void.
@@ -79,7 +92,7 @@ pub const SHEET_TEXT: usize = 270;
 /// The stack that each raw call needs in bytes, as include/waterbook.h says it; a caller's own frames come on top.
 pub const STACK_STEP: usize = 832;
 pub const STACK_VOID: usize = 832;
-pub const STACK_CLEAR: usize = 192;
+pub const STACK_CLEAR: usize = 208;
 pub const STACK_ADD: usize = 208;
 pub const STACK_READ_CARD: usize = 1_088;
 pub const STACK_WRITE_CARD: usize = 1_920;
@@ -96,7 +109,7 @@ pub const ACCEPTED: u32 = 0;
 /// The number of a raw call where a card, reading, notice, amounts, sheet or got slice has another count of numbers.
 pub const NOT_THE_COUNT: u32 = 255;
 
-/// A card's numbers.
+/// A card's numbers; [`card`] makes them from its parts.
 pub type Card = [u32; CARD];
 /// A reading's numbers.
 pub type Reading = [u32; READING];
@@ -113,7 +126,7 @@ pub type Answer = Result<Amounts, Refusal>;
 #[derive(Clone, Copy, Debug, PartialEq, Eq, Hash)]
 #[non_exhaustive]
 pub enum Refusal {
-    /// The card is out of range, its depths do not rise, or an unused place is not 0.
+    /// The card is out of range, its share too, its depths do not rise, or an unused place is not 0.
     BadCard = 1,
     /// The soil slice has not 5 numbers per cell (for reading a card: has fewer), or the row slice not 32.
     BadLengths = 2,
@@ -226,6 +239,18 @@ fn accepted(number: u32) -> Result<(), Refusal> {
 /// The length that a raw writer hands back.
 fn length(number: u32, got: [usize; GOT]) -> Result<usize, Refusal> {
     accepted(number).map(|()| got[0])
+}
+
+/// A card from its parts: cells, the delay depths from the shallowest, and the share, [`USUAL_SHARE`] where the site has
+/// none of its own. More than 30 depths are refused; all other ranges are left to the step.
+pub fn card(cells: u32, depths: &[u32], share: u32) -> Result<Card, Refusal> {
+    let mut card = [0; CARD];
+    let room = card[2..SHARE_AT].get_mut(..depths.len()).ok_or(Refusal::BadCard)?;
+    room.copy_from_slice(depths);
+    card[0] = cells;
+    card[1] = depths.len() as u32;
+    card[SHARE_AT] = share;
+    Ok(card)
 }
 
 /// One reading of the site: refused, the rows stay as they came, and the first refusal that applies is told.

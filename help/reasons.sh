@@ -5,6 +5,7 @@
 # A row `card+` is a word that may stand at the end of the card line. Of several rows of a kind, the line's first word chooses; a word without = is no pair.
 forms='
 card cells=word,1..256 delays=word,0..30 depth=word,times:delays,clear:1..1000000000,rising
+card+ share=word,not:20,clear:5..20
 soil top=signed etdepth=word vadpor=word leak=word cn=word
 entry cell=word life=word count=word rain=word irrig=word septic=word etmin=word pet=word amc=word head=bits
 entry void cell=word life=word count=word
@@ -115,7 +116,7 @@ value_fault() { # WORD VALUE
         why="is outside ${BASH_REMATCH[1]}..${BASH_REMATCH[2]}"
     fi
     attribute not "$1"
-    [ -z "$found" ] || [ "$found" != "$2" ] || why="is what the line means without it, and is left out then"
+    [ -z "$found" ] || [ "$found" != "$2" ] || why="is never written out; leave the key out, $found is what a card without it means"
 }
 
 # The one space between two pairs.
@@ -145,7 +146,7 @@ misplaced() { # KEY TOKEN
     fi
     if [ -z "$taken" ]; then
         while read -r kind row; do
-            [ -n "$kind" ] && [ "$kind" != "$now" ] && [ "${row%%[= ]*}" = "$key" ] || continue
+            [ -n "$kind" ] && [[ $kind != *+ ]] && [ "$kind" != "$now" ] && [ "${row%%[= ]*}" = "$key" ] || continue
             fault "$(shown "$2") starts ${called[$key]:-${called[$kind]:-another kind of line}}, where ${called[$now]} should stand$(soil_lines)"
             return
         done <<< "$forms"
@@ -184,6 +185,27 @@ take_pair() { # WORD OF THE FORM
     rest=${rest:${#token}} taken=$token
 }
 
+# True if the next word of the line is this key, however it is spaced or spelt.
+comes() { # KEY
+    local next=${rest#"${rest%%[!$' \t']*}"}
+    next=${next%%[!a-zA-Z]*}
+    [ "${next,,}" = "$1" ]
+}
+
+# Takes the words that may stand behind the last one of the form, and says which of them stands where the line should end.
+take_extra() {
+    local word
+    for word in $extra; do
+        ! comes "${word%%=*}" || take_pair "$word" || return 1
+    done
+    for word in $extra; do
+        comes "${word%%=*}" || continue
+        at=$((at + 1))
+        [ -z "${values[${word%%=*}]-}" ] || fault "${word%%=*}= stands once more, where the line should end" || return 1
+        fault "${word%%=*}= stands behind ${taken%%=*}=, in another order" || return 1
+    done
+}
+
 # Nothing stands behind the last pair.
 take_end() {
     [ -n "$rest" ] || return 0
@@ -210,9 +232,7 @@ walk() { # KIND LINE
             times=$((times - 1))
         done
     done
-    for word in $extra; do
-        [[ $rest != " ${word%%=*}="* ]] || take_pair "$word" || return 0
-    done
+    take_extra || return 0
     take_end || return 0
 }
 
@@ -271,19 +291,20 @@ line_reason() {
 
 # Sets reason for a card that clearing refuses.
 card_reason() {
-    local word value before found k
+    local word value before found k what
     walk card "$(text_of 1)"
     for word in $form $extra; do
         attribute clear "$word"
         [ -n "$found" ] || continue
         before='' k=0
         for value in ${values[${word%%=*}]-}; do
-            k=$((k + 1))
+            k=$((k + 1)) what=${word%%=*}
+            [[ $word != *,times:* ]] || what+=" $k"
             if [ "$value" -lt "${found%..*}" ] || [ "$value" -gt "${found#*..}" ]; then
-                reason="the card is refused: in line 1 ${word%%=*} $k is $value, outside $found"
+                reason="the card is refused: in line 1 $what is $value, outside $found"
                 return
             elif [[ $word == *,rising* ]] && [ -n "$before" ] && [ "$value" -le "$before" ]; then
-                reason="the card is refused: in line 1 ${word%%=*} $k is $value, not above the one before it, $before"
+                reason="the card is refused: in line 1 $what is $value, not above the one before it, $before"
                 return
             fi
             before=$value

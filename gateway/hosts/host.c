@@ -1,6 +1,6 @@
 /* A host in C: keeps the book of the rules page's example, with a day of rain and a void after it, through the proved
- * library.
- * host-c               the example
+ * library; and once more with a share of 5 on its card.
+ * host-c               the two examples
  * host-c SEED CALLS    so many random calls, wrong counts of numbers among them; for valgrind */
 #include <inttypes.h>
 #include <stdio.h>
@@ -10,24 +10,39 @@
 #include "dice.h"
 #include "waterbook.h"
 
-static const char journal[] =
-    "cells=1 delays=2 depth=1000000 depth=2000000\n"
-    "top=10000000 etdepth=1500000 vadpor=200 leak=100000 cn=80\n"
-    "cell=0 life=0 count=0 rain=50800 irrig=0 septic=1000 etmin=2000 pet=5000 amc=2 head=410c0000\n"
-    "cell=0 life=0 count=1 rain=0 irrig=0 septic=0 etmin=2000 pet=5000 amc=2 head=410c0000\n"
-    "cell=0 life=0 count=1 rain=0 irrig=0 septic=0 etmin=2000 pet=5000 amc=2 head=410c0000\n"
-    "cell=0 life=0 count=2 rain=50800 irrig=0 septic=0 etmin=2000 pet=5000 amc=2 head=410c0000\n"
-    "void cell=0 life=0 count=3\n";
+/* A card without its line's end, and the lines behind it. */
+#define CARD_LINE "cells=1 delays=2 depth=1000000 depth=2000000"
+#define OTHER_LINES \
+    "top=10000000 etdepth=1500000 vadpor=200 leak=100000 cn=80\n" \
+    "cell=0 life=0 count=0 rain=50800 irrig=0 septic=1000 etmin=2000 pet=5000 amc=2 head=410c0000\n" \
+    "cell=0 life=0 count=1 rain=0 irrig=0 septic=0 etmin=2000 pet=5000 amc=2 head=410c0000\n" \
+    "cell=0 life=0 count=1 rain=0 irrig=0 septic=0 etmin=2000 pet=5000 amc=2 head=410c0000\n" \
+    "cell=0 life=0 count=2 rain=50800 irrig=0 septic=0 etmin=2000 pet=5000 amc=2 head=410c0000\n" \
+    "void cell=0 life=0 count=3\n"
 
-static const char book[] =
-    "cell=0 code=0 inflow=51800 runoff=14287 etvad=2000 etstor=0 etsat=500 drain=0 release=0 stored=34513 recharge=500 left=34513\n"
-    "cell=0 code=0 inflow=0 runoff=0 etvad=0 etstor=0 etsat=833 drain=0 release=34513 stored=0 recharge=33680 left=0\n"
-    "cell=0 code=6 inflow=0 runoff=0 etvad=0 etstor=0 etsat=0 drain=0 release=0 stored=0 recharge=0 left=0\n"
-    "cell=0 code=0 inflow=50800 runoff=14287 etvad=2000 etstor=0 etsat=500 drain=0 release=0 stored=34513 recharge=-500 left=34513\n"
-    "cell=0 code=0 inflow=0 runoff=0 etvad=0 etstor=0 etsat=0 drain=0 release=34513 stored=0 recharge=34513 left=0\n"
-    "steps=4 inflow=102600 runoff=28574 etvad=4000 etstor=0 etsat=1833 drain=0 release=69026 stored=69026 recharge=68193\n";
+/* A journal and its book. */
+struct example {
+    const char *name, *journal, *book;
+};
 
-/* ---- the example ---- */
+static const struct example examples[] = {
+    {"the example", CARD_LINE "\n" OTHER_LINES,
+     "cell=0 code=0 inflow=51800 runoff=14287 etvad=2000 etstor=0 etsat=500 drain=0 release=0 stored=34513 recharge=500 left=34513\n"
+     "cell=0 code=0 inflow=0 runoff=0 etvad=0 etstor=0 etsat=833 drain=0 release=34513 stored=0 recharge=33680 left=0\n"
+     "cell=0 code=6 inflow=0 runoff=0 etvad=0 etstor=0 etsat=0 drain=0 release=0 stored=0 recharge=0 left=0\n"
+     "cell=0 code=0 inflow=50800 runoff=14287 etvad=2000 etstor=0 etsat=500 drain=0 release=0 stored=34513 recharge=-500 left=34513\n"
+     "cell=0 code=0 inflow=0 runoff=0 etvad=0 etstor=0 etsat=0 drain=0 release=34513 stored=0 recharge=34513 left=0\n"
+     "steps=4 inflow=102600 runoff=28574 etvad=4000 etstor=0 etsat=1833 drain=0 release=69026 stored=69026 recharge=68193\n"},
+    {"the example with a share of 5", CARD_LINE " share=5\n" OTHER_LINES,
+     "cell=0 code=0 inflow=51800 runoff=20410 etvad=2000 etstor=0 etsat=500 drain=0 release=0 stored=28390 recharge=500 left=28390\n"
+     "cell=0 code=0 inflow=0 runoff=0 etvad=0 etstor=0 etsat=833 drain=0 release=28390 stored=0 recharge=27557 left=0\n"
+     "cell=0 code=6 inflow=0 runoff=0 etvad=0 etstor=0 etsat=0 drain=0 release=0 stored=0 recharge=0 left=0\n"
+     "cell=0 code=0 inflow=50800 runoff=20410 etvad=2000 etstor=0 etsat=500 drain=0 release=0 stored=28390 recharge=-500 left=28390\n"
+     "cell=0 code=0 inflow=0 runoff=0 etvad=0 etstor=0 etsat=0 drain=0 release=28390 stored=0 recharge=28390 left=0\n"
+     "steps=4 inflow=102600 runoff=40820 etvad=4000 etstor=0 etsat=1833 drain=0 release=56780 stored=56780 recharge=55947\n"},
+};
+
+/* ---- the examples ---- */
 
 /* A book that grows by a line at its end. */
 struct page {
@@ -93,10 +108,11 @@ static size_t keep_entry(struct site *site, const uint8_t *text, size_t text_len
     return taken;
 }
 
-/* The whole example by single calls: 0, or the number that stopped it. */
+/* A whole journal by single calls: 0, or the number that stopped it. */
 static uint32_t keep_book(const uint8_t *text, size_t text_len, struct page *page) {
     static struct site site;
     size_t got[WATERBOOK_GOT];
+    memset(site.sheet, 0, sizeof site.sheet);
     uint32_t number = waterbook_read_card(text, text_len, site.card, WATERBOOK_CARD, site.soil,
                                           WATERBOOK_SOIL * WATERBOOK_CELLS, got, WATERBOOK_GOT);
     if (number != WATERBOOK_ACCEPTED)
@@ -114,36 +130,38 @@ static uint32_t keep_book(const uint8_t *text, size_t text_len, struct page *pag
 }
 
 /* Is this text the example's book? */
-static int is_book(const uint8_t *text, size_t length) {
-    return length == sizeof book - 1 && memcmp(text, book, length) == 0;
+static int is_book(const struct example *example, const uint8_t *text, size_t length) {
+    return length == strlen(example->book) && memcmp(text, example->book, length) == 0;
 }
 
 /* The book in one call must be the same text. */
-static int same_in_one_call(void) {
-    size_t room = WATERBOOK_BOOK_ROOM(sizeof journal - 1);
+static int same_in_one_call(const struct example *example) {
+    size_t journal_len = strlen(example->journal), room = WATERBOOK_BOOK_ROOM(journal_len);
     uint8_t *buf = malloc(room);
     if (buf == NULL)
         return 0;
-    size_t length = waterbook_book((const uint8_t *)journal, sizeof journal - 1, buf, room);
-    int same = is_book(buf, length);
+    size_t length = waterbook_book((const uint8_t *)example->journal, journal_len, buf, room);
+    int same = is_book(example, buf, length);
     free(buf);
     return same;
 }
 
-static int example(void) {
+/* Does the host keep the example's book? */
+static int keeps(const struct example *example) {
     static struct page page;
-    uint32_t number = keep_book((const uint8_t *)journal, sizeof journal - 1, &page);
+    page.length = 0;
+    uint32_t number = keep_book((const uint8_t *)example->journal, strlen(example->journal), &page);
     if (number != WATERBOOK_ACCEPTED) {
-        fprintf(stderr, "host.c: the example was refused with %" PRIu32 "\n", number);
-        return 1;
+        fprintf(stderr, "host.c: %s was refused with %" PRIu32 "\n", example->name, number);
+        return 0;
     }
     fwrite(page.text, 1, page.length, stdout);
-    if (!is_book(page.text, page.length) || !same_in_one_call()) {
-        fprintf(stderr, "host.c: the book should have been\n%s", book);
-        return 1;
+    if (!is_book(example, page.text, page.length) || !same_in_one_call(example)) {
+        fprintf(stderr, "host.c: the book should have been\n%s", example->book);
+        return 0;
     }
-    puts("host.c: the example's book, by single calls and in one");
-    return 0;
+    printf("host.c: the book of %s, by single calls and in one\n", example->name);
+    return 1;
 }
 
 /* ---- random calls ---- */
@@ -162,6 +180,8 @@ static uint32_t *any_card(size_t count) {
             depth += 1 + (uint32_t)below(300000);
         card[i] = i == 0 ? 1 + (uint32_t)below(6) : i == 1 ? delays : i < 2 + (size_t)delays ? depth : 0;
     }
+    if (count > WATERBOOK_SHARE_AT)
+        card[WATERBOOK_SHARE_AT] = below(3) == 0 ? WATERBOOK_USUAL_SHARE : 5 + (uint32_t)below(16);
     if (count > 0 && below(12) == 0) {
         size_t place = below(count);
         card[place] = (uint32_t)any_number();
@@ -274,13 +294,16 @@ static void call_add(void) {
     free(sheet), free(amounts);
 }
 
-/* A part of the example's journal from a line's start, with a byte or two changed at times. */
-static uint8_t *any_text(size_t start, size_t *length) {
-    *length = sizeof journal - 1 - start;
+/* An example's journal from the first line of a kind on, cut short at times, with a byte or two changed at times. */
+static uint8_t *any_text(enum kind kind, size_t *length) {
+    const char *from = examples[below(2)].journal;
+    if (kind != CARD)
+        from = strstr(from, kind == NOTICE ? "void" : "cell=0");
+    *length = strlen(from);
     if (below(4) == 0)
         *length = below(*length + 1);
     uint8_t *text = lend(*length);
-    memcpy(text, journal + start, *length);
+    memcpy(text, from, *length);
     static const uint64_t changed[] = {0, 0, 0, 0, 1, 2};
     for (uint64_t changes = changed[below(6)]; *length > 0 && changes > 0; changes--) {
         size_t place = below(*length);
@@ -289,15 +312,10 @@ static uint8_t *any_text(size_t start, size_t *length) {
     return text;
 }
 
-/* The start of the first line of a kind in the example's journal. */
-static size_t start_of(enum kind kind) {
-    return kind == CARD ? 0 : (size_t)(strstr(journal, kind == NOTICE ? "void" : "cell=0") - journal);
-}
-
 static void call_read(enum kind kind) {
     size_t text_len, numbers_len = count_of(kind);
     size_t soil_len = below(8), got_len = count_of(WATERBOOK_GOT);
-    uint8_t *text = any_text(start_of(kind), &text_len);
+    uint8_t *text = any_text(kind, &text_len);
     uint32_t *numbers = lend(numbers_len * sizeof *numbers), number;
     int64_t *soil = any_soil(soil_len);
     size_t *got = lend(got_len * sizeof *got);
@@ -371,7 +389,7 @@ static void call_line(int of_answer) {
 
 static void call_book(void) {
     size_t text_len;
-    uint8_t *text = any_text(0, &text_len);
+    uint8_t *text = any_text(CARD, &text_len);
     size_t room = WATERBOOK_BOOK_ROOM(text_len) - (below(6) == 0 ? 1 + below(300) : 0);
     uint8_t *buf = lend(room);
     size_t length = waterbook_book(text, text_len, buf, room);
@@ -399,7 +417,7 @@ static void call_any(void) {
 
 int main(int argc, char **argv) {
     if (argc == 1)
-        return example();
+        return keeps(&examples[0]) && keeps(&examples[1]) ? 0 : 1;
     if (argc != 3) {
         fputs("usage: host-c [SEED CALLS]\n", stderr);
         return 2;

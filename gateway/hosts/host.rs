@@ -1,16 +1,19 @@
 //! A host in Rust: keeps the book of the rules page's example, with a day of rain and a void after it, through the
-//! proved library.
+//! proved library; and once more with a share of 5 on its card.
 
 #[allow(dead_code)]
 #[path = "../waterbook.rs"]
 mod waterbook;
 
 use std::process::ExitCode;
-use waterbook::{ANSWER_TEXT, Answer, CELLS, Card, ROW, Refusal, SHEET, SHEET_TEXT, SOIL, book_room};
+use waterbook::{
+    ANSWER_TEXT, Answer, CELLS, Card, ROW, Refusal, SHEET, SHEET_TEXT, SOIL, USUAL_SHARE, book_room,
+};
 
-/// The example's journal: a card, a line of soil numbers, four readings, a void.
-const JOURNAL: &str = "\
-cells=1 delays=2 depth=1000000 depth=2000000
+/// A card without its line's end.
+const CARD_LINE: &str = "cells=1 delays=2 depth=1000000 depth=2000000";
+/// The lines behind it: soil numbers, four readings, a void.
+const OTHER_LINES: &str = "\
 top=10000000 etdepth=1500000 vadpor=200 leak=100000 cn=80
 cell=0 life=0 count=0 rain=50800 irrig=0 septic=1000 etmin=2000 pet=5000 amc=2 head=410c0000
 cell=0 life=0 count=1 rain=0 irrig=0 septic=0 etmin=2000 pet=5000 amc=2 head=410c0000
@@ -18,7 +21,7 @@ cell=0 life=0 count=1 rain=0 irrig=0 septic=0 etmin=2000 pet=5000 amc=2 head=410
 cell=0 life=0 count=2 rain=50800 irrig=0 septic=0 etmin=2000 pet=5000 amc=2 head=410c0000
 void cell=0 life=0 count=3
 ";
-/// The example's book.
+/// Its book with the share that a card without one has.
 const BOOK: &str = "\
 cell=0 code=0 inflow=51800 runoff=14287 etvad=2000 etstor=0 etsat=500 drain=0 release=0 stored=34513 recharge=500 left=34513
 cell=0 code=0 inflow=0 runoff=0 etvad=0 etstor=0 etsat=833 drain=0 release=34513 stored=0 recharge=33680 left=0
@@ -26,6 +29,15 @@ cell=0 code=6 inflow=0 runoff=0 etvad=0 etstor=0 etsat=0 drain=0 release=0 store
 cell=0 code=0 inflow=50800 runoff=14287 etvad=2000 etstor=0 etsat=500 drain=0 release=0 stored=34513 recharge=-500 left=34513
 cell=0 code=0 inflow=0 runoff=0 etvad=0 etstor=0 etsat=0 drain=0 release=34513 stored=0 recharge=34513 left=0
 steps=4 inflow=102600 runoff=28574 etvad=4000 etstor=0 etsat=1833 drain=0 release=69026 stored=69026 recharge=68193
+";
+/// Its book with a share of 5: more of the rain runs off, and less waits.
+const BOOK_OF_5: &str = "\
+cell=0 code=0 inflow=51800 runoff=20410 etvad=2000 etstor=0 etsat=500 drain=0 release=0 stored=28390 recharge=500 left=28390
+cell=0 code=0 inflow=0 runoff=0 etvad=0 etstor=0 etsat=833 drain=0 release=28390 stored=0 recharge=27557 left=0
+cell=0 code=6 inflow=0 runoff=0 etvad=0 etstor=0 etsat=0 drain=0 release=0 stored=0 recharge=0 left=0
+cell=0 code=0 inflow=50800 runoff=20410 etvad=2000 etstor=0 etsat=500 drain=0 release=0 stored=28390 recharge=-500 left=28390
+cell=0 code=0 inflow=0 runoff=0 etvad=0 etstor=0 etsat=0 drain=0 release=28390 stored=0 recharge=28390 left=0
+steps=4 inflow=102600 runoff=40820 etvad=4000 etstor=0 etsat=1833 drain=0 release=56780 stored=56780 recharge=55947
 ";
 
 /// A site: its card, soil numbers and stored rows.
@@ -76,30 +88,46 @@ fn keep(site: &mut Site, mut entries: &[u8]) -> Result<Vec<u8>, Refusal> {
     Ok(book)
 }
 
-/// The book through single calls, and the book in one call.
-fn both_books() -> Result<(String, String), Refusal> {
-    let (mut site, entries) = open(JOURNAL.as_bytes())?;
+/// A journal's card, its book through single calls, and its book in one call.
+fn both_books(journal: &str) -> Result<(Card, String, String), Refusal> {
+    let (mut site, entries) = open(journal.as_bytes())?;
     let kept = keep(&mut site, entries)?;
-    let mut whole = vec![0; book_room(JOURNAL.len())];
-    let length = waterbook::book(JOURNAL.as_bytes(), &mut whole).unwrap_or(0);
+    let mut whole = vec![0; book_room(journal.len())];
+    let length = waterbook::book(journal.as_bytes(), &mut whole).unwrap_or(0);
     whole.truncate(length);
     let text = |bytes: Vec<u8>| String::from_utf8_lossy(&bytes).into_owned();
-    Ok((text(kept), text(whole)))
+    Ok((site.card, text(kept), text(whole)))
+}
+
+/// Does the host keep this book over a card with this share, whose line ends so?
+fn keeps(share: u32, end: &str, book: &str) -> Result<bool, Refusal> {
+    let journal = format!("{CARD_LINE}{end}\n{OTHER_LINES}");
+    let (card, kept, whole) = both_books(&journal)?;
+    print!("{kept}");
+    if card != waterbook::card(1, &[1_000_000, 2_000_000], share)? {
+        eprintln!("host.rs: the card read is not the one made from its parts");
+        return Ok(false);
+    }
+    if kept != book || whole != book {
+        eprintln!("host.rs: the book should have been\n{book}and in one call it is\n{whole}");
+        return Ok(false);
+    }
+    println!("host.rs: the book with a share of {share}, by single calls and in one");
+    Ok(true)
 }
 
 fn main() -> ExitCode {
-    let (kept, whole) = match both_books() {
-        Ok(books) => books,
-        Err(refusal) => {
-            eprintln!("host.rs: the example was refused with {}: {refusal}", refusal.number());
-            return ExitCode::FAILURE;
+    let examples = [(USUAL_SHARE, "", BOOK), (5, " share=5", BOOK_OF_5)];
+    for (share, end, book) in examples {
+        match keeps(share, end, book) {
+            Ok(true) => {}
+            Ok(false) => return ExitCode::FAILURE,
+            Err(refusal) => {
+                let number = refusal.number();
+                eprintln!("host.rs: the example was refused with {number}: {refusal}");
+                return ExitCode::FAILURE;
+            }
         }
-    };
-    print!("{kept}");
-    if kept != BOOK || whole != BOOK {
-        eprintln!("host.rs: the book should have been\n{BOOK}and in one call it is\n{whole}");
-        return ExitCode::FAILURE;
     }
-    println!("host.rs: the example's book, by single calls and in one");
     ExitCode::SUCCESS
 }

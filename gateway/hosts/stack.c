@@ -82,10 +82,11 @@ static void make_book(void) { number = waterbook_book(text, lent.text_len, buf, 
 /* The most water that slot k may hold under so many delays. */
 static uint32_t slot_limit(uint32_t k, uint32_t delays) { return k > delays ? 0 : 2000000 * (delays - k + 1); }
 
-/* A card of 256 cells with so many delays, and full rows in life 3 with count 7 due. */
+/* A card of 256 cells with so many delays and the usual share, and full rows in life 3 with count 7 due. */
 static void give_delays(uint32_t delays) {
     given.card[0] = WATERBOOK_CELLS;
     given.card[1] = delays;
+    given.card[WATERBOOK_SHARE_AT] = WATERBOOK_USUAL_SHARE;
     for (uint32_t k = 1; k <= 30; k++)
         given.card[1 + k] = k <= delays ? 250000 * k : 0;
     for (size_t cell = 0; cell < WATERBOOK_CELLS; cell++) {
@@ -122,7 +123,7 @@ static void give_all(void) {
 /* All in order, every number as long as its text can be. */
 static void give_longest(void) {
     give_all();
-    memset(given.card + 2, 0xff, 30 * sizeof *given.card);
+    memset(given.card + 2, 0xff, (WATERBOOK_CARD - 2) * sizeof *given.card);
     memset(given.reading, 0xff, sizeof given.reading);
     memset(given.notice, 0xff, sizeof given.notice);
     given.cell = UINT32_MAX;
@@ -144,21 +145,29 @@ static void try_with_signed(int64_t *place, int64_t other, size_t wanted) {
 
 /* ---- the cases of each call ---- */
 
-/* Readings that are accepted: so many delays, tables of any height, all moistures. */
+/* Readings that are accepted: so many delays, tables of any height, all moistures, three shares. */
 static void accepted_steps(void) {
     static const uint32_t heads[] = {0x410c0000, 0x41200000, 0x41280000, 0x411ffbe7, 0x461c4000, 0xc61c4000,
                                      0x80000001, 0xf149f2ca};
-    static const uint32_t rains[] = {0, 12953, 1000000};
+    static const uint32_t rains[] = {0, 12953, 1000000}, shares[] = {5, 12, 20};
     for (uint32_t delays = 0; delays <= 30; delays++) {
         give_delays(delays);
-        for (size_t i = 0; i < 8 * 3 * 3 * 2; i++) {
+        for (size_t i = 0; i < 8 * 3 * 3 * 2 * 3; i++) {
             given.reading[9] = heads[i % 8];
             given.reading[3] = rains[i / 8 % 3];
             given.reading[8] = (uint32_t)(1 + i / 24 % 3);
-            given.reading[6] = given.reading[7] = i / 72 == 0 ? 0 : 1000000;
+            given.reading[6] = given.reading[7] = i / 72 % 2 == 0 ? 0 : 1000000;
+            given.card[WATERBOOK_SHARE_AT] = shares[i / 144];
             try(WATERBOOK_ACCEPTED);
         }
     }
+}
+
+/* A share out of range, on either side and far off. */
+static void refused_shares(void) {
+    static const uint32_t wrong[] = {0, 4, 21, UINT32_MAX};
+    for (size_t i = 0; i < 4; i++)
+        try_with(&given.card[WATERBOOK_SHARE_AT], wrong[i], WATERBOOK_BAD_CARD);
 }
 
 /* The refusals that a reading and a void have in common: by card, slices and row, and by the entry's cell, life and
@@ -167,6 +176,7 @@ static void refused_entries(uint32_t *entry) {
     uint32_t *row = given.rows + WATERBOOK_ROW * 255;
     try_with(&given.card[31], 1, WATERBOOK_BAD_CARD);
     try_with(&given.card[0], 257, WATERBOOK_BAD_CARD);
+    refused_shares();
     try_shorter(&given.soil_len, WATERBOOK_BAD_LENGTHS);
     try_shorter(&given.rows_len, WATERBOOK_BAD_LENGTHS);
     try_with(&entry[0], 256, WATERBOOK_BAD_CELL);
@@ -202,6 +212,7 @@ static void step_cases(void) {
 static void void_cases(void) {
     for (uint32_t delays = 0; delays <= 30; delays++) {
         give_delays(delays);
+        try_with(&given.card[WATERBOOK_SHARE_AT], 5, WATERBOOK_ACCEPTED);
         try(WATERBOOK_ACCEPTED);
     }
     refused_entries(given.notice);
@@ -210,8 +221,10 @@ static void void_cases(void) {
 
 static void clear_cases(void) {
     try(WATERBOOK_ACCEPTED);
+    try_with(&given.card[WATERBOOK_SHARE_AT], 5, WATERBOOK_ACCEPTED);
     try_with(&given.card[2], 0, WATERBOOK_BAD_CARD);
     try_with(&given.card[31], 1, WATERBOOK_BAD_CARD);
+    refused_shares();
     try_shorter(&given.rows_len, WATERBOOK_BAD_LENGTHS);
     try_shorter(&given.card_len, WATERBOOK_NOT_THE_COUNT);
 }
@@ -249,6 +262,14 @@ static void give_card_text(void) {
     take_text();
 }
 
+/* Give a card text whose first line ends in share=20, which no card is written with. */
+static void give_usual_share_text(void) {
+    given.card[WATERBOOK_SHARE_AT] = 21;
+    give_card_text();
+    uint8_t *end = memchr(text, '\n', given.text_len);
+    end[-1] = '0';
+}
+
 static void read_card_cases(void) {
     give_longest();
     give_card_text();
@@ -262,6 +283,8 @@ static void read_card_cases(void) {
     give_all();
     give_card_text();
     try(WATERBOOK_ACCEPTED);
+    give_usual_share_text();
+    try(WATERBOOK_MALFORMED);
 }
 
 /* A writer over a buffer that just holds the longest text of its kind, and over one that is a byte short. */
@@ -281,6 +304,7 @@ static void write_card_cases(void) {
     try_room(WATERBOOK_CARD_TEXT);
     try_with(&given.card[0], 257, WATERBOOK_MALFORMED);
     try_with(&given.card[1], 29, WATERBOOK_MALFORMED);
+    try_with(&given.card[WATERBOOK_SHARE_AT], WATERBOOK_USUAL_SHARE, WATERBOOK_ACCEPTED);
     try_shorter(&given.soil_len, WATERBOOK_BAD_LENGTHS);
     try_with_signed(&given.soil[WATERBOOK_SOIL * 255 + 4], -1, WATERBOOK_MALFORMED);
     try_shorter(&given.card_len, WATERBOOK_NOT_THE_COUNT);
@@ -389,6 +413,16 @@ static void book_cases(void) {
     given.text_len = WATERBOOK_LONGEST + 1;
     try(strlen("code=12 line=0\n"));
     give_longest();
+    give_card_text();
+    try(strlen("code=1\n"));
+    give_all();
+    given.card[WATERBOOK_SHARE_AT] = 5;
+    give_card_text();
+    give_entries();
+    try(book_length());
+    give_usual_share_text();
+    try(strlen("code=12 line=1\n"));
+    given.card[WATERBOOK_SHARE_AT] = 4;
     give_card_text();
     try(strlen("code=1\n"));
 }

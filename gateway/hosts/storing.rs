@@ -1,6 +1,7 @@
 //! A host that stores as STORING.md says: `storing SEED SITES` keeps so many sites while the link loses and repeats,
-//! sheets fill, the store fails before or after it is durable, and the power is cut at every point. It holds each book
-//! to what the nodes made. Hosts that work in a wrong order must be found out by the same run.
+//! sheets fill, the card gets another share, the store fails before or after it is durable, and the power is cut at
+//! every point. It holds each book to what the nodes made. Hosts that work in a wrong order must be found out by the
+//! same run.
 
 #[allow(dead_code)]
 #[path = "../waterbook.rs"]
@@ -9,7 +10,7 @@ mod waterbook;
 use second::made::dice::Dice;
 use std::ops::Range;
 use std::process::ExitCode;
-use waterbook::{Amounts, Answer, CARD, Card, Notice, ROW, Reading, Refusal, SHEET, Sheet};
+use waterbook::{Amounts, Answer, Notice, ROW, Reading, Refusal, SHEET, Sheet, USUAL_SHARE};
 
 /// Plots of a site, days that its nodes report, sendings after which a node gives up, and the steps of a full sheet.
 const PLOTS: usize = 3;
@@ -28,10 +29,11 @@ enum Order {
     KeptAfterFailure,
     PutBackAfterFailure,
     FullSheetForgotten,
+    ShareNotStored,
 }
 
 /// The wrong orders by name.
-const WRONG: [(Order, &str); 7] = [
+const WRONG: [(Order, &str); 8] = [
     (Order::AcknowledgedFirst, "acknowledged first"),
     (Order::RowApart, "row apart"),
     (Order::AnswerApart, "answer apart"),
@@ -39,6 +41,7 @@ const WRONG: [(Order, &str); 7] = [
     (Order::KeptAfterFailure, "memory kept after a failure"),
     (Order::PutBackAfterFailure, "memory put back after a failure"),
     (Order::FullSheetForgotten, "11 not handled"),
+    (Order::ShareNotStored, "another share used and not stored"),
 ];
 
 /// What a node makes of a day: a reading, or a void where its gauge froze.
@@ -58,9 +61,10 @@ impl Entry {
     }
 }
 
-/// What is kept of a site from step to step.
+/// What is kept of a site from step to step; of its card the share alone changes.
 #[derive(Clone)]
 struct Site {
+    share: u32,
     rows: Vec<u32>,
     sheet: Sheet,
 }
@@ -76,7 +80,7 @@ struct Change {
 impl Site {
     /// Step an entry and add its answer; a full sheet is put away.
     fn step(&mut self, entry: &Entry, order: Order) -> Result<Change, Refusal> {
-        let answer = step(&mut self.rows, entry);
+        let answer = step(self.share, &mut self.rows, entry);
         let (amounts, mut full) = (answer?, None);
         if let Err(refusal) = waterbook::add(&mut self.sheet, &answer) {
             if order == Order::FullSheetForgotten {
@@ -89,19 +93,13 @@ impl Site {
     }
 }
 
-/// A card with two delays.
-fn card() -> Card {
-    let mut card = [0; CARD];
-    card[..4].copy_from_slice(&[PLOTS as u32, 2, 1_000_000, 2_000_000]);
-    card
-}
-
-/// Step an entry.
-fn step(rows: &mut [u32], entry: &Entry) -> Answer {
+/// Step an entry over a card with two delays and this share.
+fn step(share: u32, rows: &mut [u32], entry: &Entry) -> Answer {
+    let card = waterbook::card(PLOTS as u32, &[1_000_000, 2_000_000], share)?;
     let soil = [10_000_000, 1_500_000, 200, 100_000, 80].repeat(PLOTS);
     match entry {
-        Entry::Reading(reading) => waterbook::step(&card(), &soil, rows, reading),
-        Entry::Void(notice) => waterbook::void(&card(), &soil, rows, notice),
+        Entry::Reading(reading) => waterbook::step(&card, &soil, rows, reading),
+        Entry::Void(notice) => waterbook::void(&card, &soil, rows, notice),
     }
 }
 
@@ -119,10 +117,12 @@ enum Part {
     Sheet,
 }
 
-/// What is durable: the site, all answers, and the sheets that were put away.
+/// What is durable: the site, all answers, the places among them from which on each share is used, and the sheets that
+/// were put away.
 struct Disk {
     site: Site,
     book: Vec<(Entry, Amounts)>,
+    shares: Vec<(usize, u32)>,
     full: Vec<Sheet>,
 }
 
@@ -140,6 +140,12 @@ impl Disk {
                 self.site.sheet = change.site.sheet;
             }
         }
+    }
+
+    /// The share of the card when the answer at a place was given.
+    fn share_at(&self, place: usize) -> u32 {
+        let used = self.shares.iter().rev().find(|(from, _)| *from <= place);
+        used.map_or(USUAL_SHARE, |(_, share)| *share)
     }
 }
 
@@ -162,8 +168,9 @@ struct Gateway {
 impl Gateway {
     /// A gateway on the first day of a site.
     fn first(order: Order, sheet: Sheet) -> Gateway {
-        let site = Site { rows: vec![0; ROW * PLOTS], sheet };
-        let disk = Disk { site: site.clone(), book: Vec::new(), full: Vec::new() };
+        let site = Site { share: USUAL_SHARE, rows: vec![0; ROW * PLOTS], sheet };
+        let (book, shares, full) = Default::default();
+        let disk = Disk { site: site.clone(), book, shares, full };
         Gateway { order, disk, memory: site, mishaps: Mishaps::default() }
     }
 
@@ -180,6 +187,15 @@ impl Gateway {
             self.mishaps.cuts += 1;
         }
         cut
+    }
+
+    /// The card gets another share: stored with its place among the answers, then used. The rows stay.
+    fn change_share(&mut self, share: u32) {
+        if self.order != Order::ShareNotStored {
+            self.disk.site.share = share;
+            self.disk.shares.push((self.disk.book.len(), share));
+        }
+        self.memory.share = share;
     }
 
     /// The acknowledgement of a plot: its life and next count.
@@ -313,6 +329,9 @@ fn keep(order: Order, dice: &mut Dice) -> (Gateway, bool) {
     let mut gateway = Gateway::first(order, first);
     let mut nodes: Vec<Node> = (0..PLOTS).map(|_| Node::default()).collect();
     for _ in 0..DAYS {
+        if dice.once_in(10) {
+            gateway.change_share(dice.within(5, 20) as u32);
+        }
         nodes.iter_mut().enumerate().for_each(|(plot, node)| node.make(plot, dice));
         (0..8).for_each(|_| send(&mut gateway, &mut nodes, dice));
     }
@@ -330,7 +349,9 @@ fn keep(order: Order, dice: &mut Dice) -> (Gateway, bool) {
 /// Has the disk each entry once, in its order, and are its rows and amounts those of the entries?
 fn whole(disk: &Disk, nodes: &[Node]) -> bool {
     let mut rows = vec![0; ROW * PLOTS];
-    let stepped = disk.book.iter().all(|(entry, amounts)| step(&mut rows, entry) == Ok(*amounts));
+    let stepped = disk.book.iter().enumerate().all(|(place, (entry, amounts))| {
+        step(disk.share_at(place), &mut rows, entry) == Ok(*amounts)
+    });
     let made = nodes.iter().enumerate().all(|(plot, node)| {
         let of_plot = disk.book.iter().filter(|(entry, _)| entry.plot() == plot);
         of_plot.map(|(entry, _)| entry).eq(&node.made)
@@ -368,14 +389,14 @@ fn main() -> ExitCode {
     let (cuts, lost) = (all(|gateway| gateway.mishaps.cuts), all(|gateway| gateway.mishaps.lost));
     let (durable, full) =
         (all(|gateway| gateway.mishaps.durable), all(|gateway| gateway.disk.full.len()));
-    let entries = *sites as usize * PLOTS * DAYS;
-    println!(
-        "storing: {sites} sites, {entries} readings and voids, {full} full sheets, {cuts} cuts"
-    );
+    let (entries, shares) =
+        (*sites as usize * PLOTS * DAYS, all(|gateway| gateway.disk.shares.len()));
+    println!("storing: {sites} sites, {entries} readings and voids, {shares} other shares");
+    println!("storing: {full} full sheets, {cuts} cuts");
     println!("storing: {lost} stores failed with nothing durable, {durable} with all of it");
     println!("storing: {} sites lost or doubled an entry", unsound(&right));
     let mut sound =
-        unsound(&right) == 0 && [cuts, lost, durable, full].iter().all(|times| *times > 0);
+        unsound(&right) == 0 && [cuts, lost, durable, full, shares].iter().all(|times| *times > 0);
     for (order, name) in WRONG {
         let found = unsound(&run(order));
         println!("storing: wrong order, {name}: {found} sites did");

@@ -15,10 +15,11 @@
  * The library keeps nothing between calls, allocates nothing, and of a C library wants memcpy, memmove and
  * memset only: any number of threads may call it at once, each with slices of its own.
  *
- * card: 32 numbers.
+ * card: 33 numbers.
  *    0        cells, 1..256
  *    1        delays M, 0..30
  *    2..31    delay depths 1..30 in µm, each 1..1,000,000,000; the first M strictly rising, the others 0
+ *    32       share of storage that the first wetting takes, whole percent, 5..20; 20 where a card has none of its own
  *
  * soil: 5 numbers per cell, cell 0 first.
  *    0  top      height of the ground in µm, -10,000,000,000..10,000,000,000
@@ -73,9 +74,10 @@
  *
  * Texts: pairs key=value, each number in plain decimals without leading zeros (top and recharge may have a minus), the
  * head as 8 hex digits in small letters; one space between two pairs, one LF at each line's end. docs/JOURNAL.md in the
- * repository has it to the byte. The line of a card, of soil numbers, of a reading, of a void, of the answers to these
- * two, and of the sheet then:
+ * repository has it to the byte. The line of a card, of one with a share that is not 20 (so little rain runs off under
+ * neither), of soil numbers, of a reading, of a void, of the answers to these two, and of the sheet then:
  *    cells=1 delays=2 depth=1000000 depth=2000000
+ *    cells=1 delays=2 depth=1000000 depth=2000000 share=5
  *    top=10000000 etdepth=1500000 vadpor=200 leak=100000 cn=80
  *    cell=0 life=0 count=0 rain=2090 irrig=0 septic=0 etmin=2000 pet=5000 amc=2 head=410c0000
  *    void cell=0 life=0 count=1
@@ -98,9 +100,18 @@ extern "C" {
 /* The version. MAJOR rises where a call answers what it took before in another way, or where a call, a width or a
  * constant goes or changes its meaning: look at the host again. MINOR rises where a call or constant comes, a text is
  * taken that was malformed before, or a room or stack stated below grows: build the host again. PATCH rises where none
- * of this is so, as for speed. */
-#define WATERBOOK_VERSION_MAJOR 2
-#define WATERBOOK_VERSION_MINOR 1
+ * of this is so, as for speed.
+ *
+ * From 2.x to 3.0.0 the card got one number more, the share, at place 32. What a host of 2.x has to change:
+ *   Lend 33 numbers as a card in place of 32, with 20 at place 32. A card lent with 32 gets 255, and nothing is changed;
+ *   one with 33 and a 0 left there gets 1 from step, void and clearing, and is written with share=0.
+ *   Put 20 behind the 32 numbers of each card that is stored.
+ *   Give a card text 17 bytes more room, as WATERBOOK_CARD_TEXT does.
+ * All else is as it was. Rows, soil numbers, readings, notices, amounts and sheets have the same numbers, and with 20
+ * every answer is the same. A card text that was read before is read the same, with 20 at place 32, and a card with 20
+ * is written as before; a text with another share was malformed before. The Rust side has changed likewise. */
+#define WATERBOOK_VERSION_MAJOR 3
+#define WATERBOOK_VERSION_MINOR 0
 #define WATERBOOK_VERSION_PATCH 0
 #define WATERBOOK_VERSION \
     (1000000 * WATERBOOK_VERSION_MAJOR + 1000 * WATERBOOK_VERSION_MINOR + WATERBOOK_VERSION_PATCH)
@@ -108,7 +119,7 @@ extern "C" {
 /* The number that a call returns. */
 enum waterbook_number {
     WATERBOOK_ACCEPTED = 0,
-    /* The card is out of range, its depths do not rise, or an unused place is not 0. */
+    /* The card is out of range, its share too, its depths do not rise, or an unused place is not 0. */
     WATERBOOK_BAD_CARD = 1,
     /* soil has not 5 x cells numbers (for reading a card: has fewer), or rows has not 32 x cells. */
     WATERBOOK_BAD_LENGTHS = 2,
@@ -140,7 +151,7 @@ enum waterbook_number {
 
 /* How many numbers a record has; soil and rows have so many per cell. */
 enum {
-    WATERBOOK_CARD = 32,
+    WATERBOOK_CARD = 33,
     WATERBOOK_SOIL = 5,
     WATERBOOK_ROW = 32,
     WATERBOOK_READING = 10,
@@ -154,10 +165,18 @@ enum {
     WATERBOOK_LONGEST = 65536
 };
 
+/* The card's share. */
+enum {
+    /* Its place on the card. */
+    WATERBOOK_SHARE_AT = 32,
+    /* The share of a card that has none of its own. */
+    WATERBOOK_USUAL_SHARE = 20
+};
+
 /* The longest text of each kind in bytes, every number at its longest: a buffer of so many is never too short. */
 enum {
     /* The card text of 256 cells and 30 delays. */
-    WATERBOOK_CARD_TEXT = 24082,
+    WATERBOOK_CARD_TEXT = 24099,
     /* The line of a reading, of a void, of an answer, of a sheet. */
     WATERBOOK_READING_TEXT = 161,
     WATERBOOK_VOID_TEXT = 54,
@@ -175,7 +194,7 @@ enum {
 enum {
     WATERBOOK_STACK_STEP = 832,
     WATERBOOK_STACK_VOID = 832,
-    WATERBOOK_STACK_CLEAR = 192,
+    WATERBOOK_STACK_CLEAR = 208,
     WATERBOOK_STACK_ADD = 208,
     WATERBOOK_STACK_READ_CARD = 1088,
     WATERBOOK_STACK_WRITE_CARD = 1920,
@@ -231,7 +250,8 @@ uint32_t waterbook_add(int64_t *sheet, size_t sheet_len, uint32_t number,
  * them is looked at. Returns 0, 12, 2 or 255. Accepted: card, the first 5 x cells numbers of soil (no others),
  * and the bytes taken. Refused (12, 2): card holds zeros, soil stays as it came, no bytes are taken, and got
  * tells the malformed line (0 with number 2). cells outside 1..256 or delays above 30 are malformed (12, line 1); all
- * other ranges are left to the step. */
+ * other ranges are left to the step, that of the share too. A text without a share gives 20, and share=20 written out
+ * is malformed (12, line 1). */
 uint32_t waterbook_read_card(const uint8_t *text, size_t text_len,
                              uint32_t *card, size_t card_len,
                              int64_t *soil, size_t soil_len,
@@ -240,7 +260,8 @@ uint32_t waterbook_read_card(const uint8_t *text, size_t text_len,
 /* Writes a card text at the start of buf; no byte after it changes. Returns 0, 12, 2 or 255, in the order:
  * a card that no text gives (12), soil not 5 x cells long (2), a soil number that does not fit its text (12),
  * buf too short (12). Where it is not 0, buf stays as it came. No text gives a card with cells outside 1..256,
- * delays above 30, or an unused place that is not 0. A soil number but top fits where it is 0..4,294,967,295. */
+ * delays above 30, or an unused place that is not 0. Any share is written but 20, which is left out. A soil number but
+ * top fits where it is 0..4,294,967,295. */
 uint32_t waterbook_write_card(const uint32_t *card, size_t card_len,
                               const int64_t *soil, size_t soil_len,
                               uint8_t *buf, size_t buf_len,

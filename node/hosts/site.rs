@@ -1,7 +1,7 @@
 //! The gateway's end of the link, for the hosts here: a site, an entry that reaches it, and a plot's acknowledgement.
 
 use crate::outbox::{Entry, VOID};
-use crate::waterbook::{self, Answer, CARD, Card, NOTICE, READING, ROW, Refusal, SOIL};
+use crate::waterbook::{self, Answer, Card, NOTICE, READING, ROW, Refusal, SOIL, USUAL_SHARE};
 
 /// A site: its card, soil numbers and stored rows.
 #[derive(Clone)]
@@ -14,8 +14,7 @@ pub struct Site {
 impl Site {
     /// A site of so many plots on its first day, with two delays.
     pub fn first(plots: u32) -> Result<Site, Refusal> {
-        let mut card = [0; CARD];
-        card[..4].copy_from_slice(&[plots, 2, 1_000_000, 2_000_000]);
+        let card = waterbook::card(plots, &[1_000_000, 2_000_000], USUAL_SHARE)?;
         let plot: [i64; SOIL] = [10_000_000, 1_500_000, 200, 100_000, 80];
         let (soil, rows) = (plot.repeat(plots as usize), vec![u32::MAX; ROW * plots as usize]);
         let mut site = Site { card, soil, rows };

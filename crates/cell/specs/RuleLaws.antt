@@ -1,12 +1,12 @@
 -- Laws of the number rules and of the depth, so that no caller looks into a rule's text. Assumes nothing.
-use mathlib.Core.Path.{_≡_, refl, sym}
+use mathlib.Core.Path.{_≡_, refl, sym, ap, _∙_}
 use mathlib.Core.Bool.{Bool, true, false, cond}
 use mathlib.Core.Logic.{⊎-elim}
 use mathlib.Core.List.{List}
 use Prim.Native.Nat.{ℕ, zero, suc, _+_, _-_, _*_, _/_, _%_, _≤_, _<_, max}
-use native.Mathlib.Nat.{mul-le-mul, div-le-of-le-mul, le-trans, le-of-eq, eq-or-lt-of-le}
+use native.Mathlib.Nat.{mul-le-mul, mul-le-mul-left, mul-le-mul-right, le-of-mul-le-mul-right, mul-pos, div-mul-le-self, le-div-iff-mul-le, div-le-of-le-mul, le-trans, le-of-eq, eq-or-lt-of-le}
 use native.Mathlib.Omega.{arith}
-use borrow.Author.Tests.{ltb-true, leb-true, leb-false, eq-eqb}
+use borrow.Author.Tests.{lt-leb, ltb-true, leb-true, leb-false, eq-eqb}
 use lib.Dec.{T, leb, ltb, eqb, leb→le}
 use lib.ListN.{getD}
 use lib.IntN.{ℤ, pos, negsuc, natAbs, _-ℤ_}
@@ -101,6 +101,43 @@ storm-le r c rain =
 -- and nothing runs off where nothing rains
 pub storm-dry : (r c rain : ℕ) → rain ≡ 0 → 0 ≡ stormOf r c rain
 storm-dry r c rain e = omega (arith, storm-le r c rain)
+
+-- and a smaller share lets no less run off: Y is X and all the storage, and X x X / Y rises with X
+rising : (x j k c : ℕ) → 0 < c → 0 < x → x * x / (c * (x + k)) ≤ (x + j) * (x + j) / (c * (x + j + k))
+rising x j k c p z =
+    let q : ℕ = x * x / (c * (x + k)) in
+    let a : q * (c * (x + k)) ≤ x * x = div-mul-le-self (x * x) (c * (x + k)) in
+    let b : q * c * (x + k) ≤ x * (x + k) = omega (arith, a) in
+    let e : q * c ≤ x = le-of-mul-le-mul-right b (omega arith) in
+    let t : q * c * j ≤ x * j = mul-le-mul-right j e in
+    le-div-iff-mul-le {k = c * (x + j + k)} {x = q} {y = (x + j) * (x + j)} (mul-pos p (omega arith)) .1 (omega (arith, a, t))
+
+pub storm-more : (r s c rain : ℕ) → r ≤ s → s ≤ 100 → 1 ≤ c → stormOf s c rain ≤ stormOf r c rain
+unfolding stormOf
+storm-more r s c rain h m p = either (λ n. n ≤ stormOf r c rain) (leb (c * rain) (2540 * s * v)) (λ e. omega arith) wet
+  where
+    v : ℕ
+    v = 100 - c
+
+    less : 2540 * r * v ≤ 2540 * s * v
+    less = mul-le-mul-right v (mul-le-mul-left 2540 h)
+
+    storage : (r : ℕ) → r ≤ 100 → 2540 * (100 - r) * v + 2540 * r * v ≡ 254000 * v
+    storage r l =
+        let e : 100 - r + r ≡ 100 = omega arith in
+        let f : 2540 * (100 - r) * v + 2540 * r * v ≡ 2540 * (100 - r + r) * v = omega arith in
+        f ∙ ap (λ (n : ℕ). 2540 * n * v) e
+
+    wet : leb (c * rain) (2540 * s * v) ≡ false
+        → (c * rain - 2540 * s * v) * (c * rain - 2540 * s * v) / (c * (c * rain + 2540 * (100 - s) * v)) ≤ stormOf r c rain
+    wet e =
+        let g : 2540 * s * v < c * rain = leb-false (c * rain) (2540 * s * v) e in
+        let x : ℕ = c * rain - 2540 * s * v in
+        let j : ℕ = 2540 * s * v - 2540 * r * v in
+        let y : c * rain + 2540 * (100 - s) * v ≡ x + 254000 * v = omega (arith, storage s m) in
+        let x′ : c * rain - 2540 * r * v ≡ x + j = omega (arith, less) in
+        let y′ : c * rain + 2540 * (100 - r) * v ≡ x + j + 254000 * v = omega (arith, storage r (omega arith), less) in
+        rw (lt-leb (c * rain) (2540 * r * v) (omega (arith, less)), y, x′, y′) (rising x j (254000 * v) c p (omega arith))
 
 -- ---- 4. the delay is one of the m; where it is one, its depth is at most n; and each deeper one's is not: it is the largest
 pub reach-le : (ds : List ℕ) (m n : ℕ) → reachOf ds m n ≤ m

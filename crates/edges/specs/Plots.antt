@@ -18,11 +18,11 @@ metreByMetre (suc n) depth = depth ∷ metreByMetre n (depth + 1000000)
 
 -- the card, for so many plots and with so many delays
 abbrev pub cardOf : ℕ → ℕ → Card
-cardOf cells delays = record { cells = cells; delays = delays; depths = depthsOf 1000000 2000000 }
+cardOf cells delays = record { cells = cells; delays = delays; depths = depthsOf 1000000 2000000; share = 20 }
 
 -- the card of one plot without delays
 abbrev pub bareCard : Card
-bareCard = record { cells = 1; delays = 0; depths = depthsOf 0 0 }
+bareCard = record { cells = 1; delays = 0; depths = depthsOf 0 0; share = 20 }
 
 -- top, etdepth, vadpor, leak, cn
 abbrev pub soilNumbers : List ℤ

@@ -14,6 +14,7 @@ fn two(cells: u32, delays: u32, first: u32, second: u32) {
         cells,
         delays,
         depths,
+        share: 20,
     };
     let soil = plots::soil();
     let mut rows = [0u32; 32];
@@ -31,6 +32,7 @@ fn many(delays: u32) {
         cells: 1,
         delays,
         depths,
+        share: 20,
     };
     let soil = plots::soil();
     let mut rows = [0u32; 32];

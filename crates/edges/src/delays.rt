@@ -11,6 +11,7 @@ fn plot(top: i64) {
         cells: 1,
         delays: 30,
         depths,
+        share: 20,
     };
     let soil = [top, 1500000, 200, 100000, 80];
     let mut rows = [0u32; 32];

@@ -1,4 +1,4 @@
-// Runs the cases of document 01 that are not proved: its unstarred edges, and both sides of each refusal number; for [1], storms on dry and on wet ground; for [2], the delay under 30 depths; for [3], voids.
+// Runs the cases of document 01 that are not proved: its unstarred edges, and both sides of each refusal number; for [1], storms on dry and on wet ground; for [2], the delay under 30 depths; for [3], voids; for [5], shares.
 mod card_texts;
 mod cards;
 mod delays;
@@ -8,6 +8,7 @@ mod heads;
 mod plots;
 mod readings;
 mod rows;
+mod shares;
 mod sheets;
 mod show;
 mod sites;
@@ -27,4 +28,5 @@ fn main() {
     readings::cases();
     card_texts::cases();
     voids::cases();
+    shares::cases();
 }

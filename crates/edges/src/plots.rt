@@ -61,6 +61,7 @@ pub fn card_of(cells: u32, delays: u32) -> Card
         cells,
         delays,
         depths,
+        share: 20,
     }
 }
 
@@ -80,6 +81,7 @@ pub fn card_without_delays() -> Card
         cells: 1,
         delays: 0,
         depths,
+        share: 20,
     }
 }
 

@@ -48,6 +48,7 @@ fn deep(first_slot: u32) {
         cells: 1,
         delays: 30,
         depths,
+        share: 20,
     };
     show::form(b"30 delays, slot 1 at #, ", &[first_slot as u64]);
     let soil = plots::soil();

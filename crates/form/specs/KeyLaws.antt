@@ -36,6 +36,11 @@ pub key-absent : (f : List ℕ) (d : ℕ) (s : List ℕ) (at : ℕ) → unlike f
 unfolding keyAt
 key-absent f d s at u = rw (unlike-not f s at u)
 
+-- nor is it where another byte stands than its first
+pub key-elsewhere : (c : ℕ) (f : List ℕ) (d : ℕ) (s : List ℕ) (at : ℕ) → isMark c ≡ false → ¬ (byteAt s at ≡ c) → keyAt (c ∷ f) d s at ≡ keyOf at d
+unfolding keyAt formAt
+key-elsewhere c f d s at m n = rw (m, ne-eqb (byteAt s at) c n)
+
 -- the one value of a form
 one-value : (vs : List ℤ) → length vs ≡ 1 → map unword vs ≡ vs → _≡_ {A = List ℤ} (pos (wordOf (getD vs 0 (pos 0))) ∷ []) vs
 one-value [] l e = absurd (omega arith)

@@ -17,7 +17,7 @@ use Rattle.text.specs.declared.card.CardRead.{CardRead}
 use Rattle.text.specs.declared.card.Tail.{Tail}
 use Rattle.form.specs.declared.keys.Key.{Key}
 use Rattle.form.specs.Keys.{keyOf, keyAt, keyText}
-use Rattle.form.specs.KeyLaws.{key-one, key-back, key-default, key-absent, key-then, text-none}
+use Rattle.form.specs.KeyLaws.{key-one, key-back, key-default, key-elsewhere, key-then, text-none}
 use Rattle.cell.specs.declared.Card.{Card}
 use Rattle.cell.specs.declared.Refusal.the-variants.{BadLengths}
 use Rattle.cell.specs.Ranges.{countsOk, noneOf}
@@ -237,8 +237,10 @@ module _ (share : ℕ) (x : List ℕ) where
 
 -- [5] a line that ends right behind its depths has the share that is not said
 pub tail-unsaid : (s : List ℕ) (at : ℕ) → byteAt s at ≡ 10 → tailAt s at ≡ record { ok = true; next = suc at; share = unsaidShare }
-unfolding tailAt byteAt
-tail-unsaid s at e = rw (key-absent shareForm unsaidShare s at (rw e), e)
+unfolding tailAt
+tail-unsaid s at e =
+    let k : keyAt shareForm unsaidShare s at ≡ keyOf at unsaidShare = key-elsewhere 32 (drop 1 shareForm) unsaidShare s at refl (λ z. omega (arith, e, z)) in
+    rw (k, e)
 
 module _ (c : Card) (soil : List ℤ) (ok : CardFits c soil) where
   abbrev ta : List ℕ

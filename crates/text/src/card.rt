@@ -299,15 +299,7 @@ fn card_len(h: &[i64], m: usize, ds: &[i64], share: u32, n: usize, soil: &[i64])
 }
 
 // Writes a card's text at the start of buf.
-fn put_card(
-    h: &[i64],
-    m: usize,
-    ds: &[i64],
-    share: u32,
-    n: usize,
-    soil: &[i64],
-    buf: &mut [u8],
-)
+fn put_card(h: &[i64], m: usize, ds: &[i64], share: u32, n: usize, soil: &[i64], buf: &mut [u8])
     requires { ⌜ (length (now h) ≡ 2) × (m ≤ 30) × (length (now ds) ≡ 30) × (n ≤ 256) × (length (now soil) ≡ n * 5)
         × (length (cardParts (now h) m (now ds) share n (now soil)) ≤ length (now buf)) ⌝ }
     ensures { λ _. ⌜ now (buf .exit) ≡ sets (now (buf .entry)) 0 (cardParts (now (h .entry)) m (now (ds .entry)) share n (now (soil .entry))) ⌝ }
