@@ -37,6 +37,14 @@ pub voids : bookOf (bytes "cells=1 delays=2 depth=1000000 depth=2000000\ntop=100
 unfolding floorDiv usable floorUm levelUm classOf carriedOf ofBits toBits dec decF numAt numStart numGo hexAt hexGo byteAt valAt valText formAt formText manyAt sided depthOf distance slot total shifted taken spared joined countsOk noneOf risingFrom depthsOk shareOk cardOk within soilOk soilOf lifeOf nextOf slotsOf queueOf slotsOk rowOk noticeOk fieldsOk isOld isGap sounded unless fieldsVerdict verdictOf curveOf stormOf reachOf delayOf shallowOf runoffOf lackOf fadingOf etsatOf drainOf storedOf directOf rechargeOf given release curve storm delay runoff etvad lack draws etstor etsat drain sunk stored direct recharge queueAfter stepAmounts shiftAmounts amountsBy queueBy rowAfter judged answerOf newRow partAt putAt amountsFit sumsWithin addable plusOf sheetBy addedOf soilFits rowsFit cellFits refuse siteAnswer rowsBy siteRows clearNumber clearRows readReading readVoid readEntry parse countsOf rangeCounts tailAt keyAt depthsAt answerText lineText sheetText codeText malformedText entriesIn answeredOf entriesText clearedText bookOf
 voids = refl
 
+-- [5] the first reading under a share of 5; a share that clearing refuses; 20 said
+pub shares : (bookOf (bytes "cells=1 delays=2 depth=1000000 depth=2000000 share=5\ntop=10000000 etdepth=1500000 vadpor=200 leak=100000 cn=80\ncell=0 life=0 count=0 rain=50800 irrig=0 septic=1000 etmin=2000 pet=5000 amc=2 head=410c0000\n")
+    ≡ bytes "cell=0 code=0 inflow=51800 runoff=20410 etvad=2000 etstor=0 etsat=500 drain=0 release=0 stored=28390 recharge=500 left=28390\nsteps=1 inflow=51800 runoff=20410 etvad=2000 etstor=0 etsat=500 drain=0 release=0 stored=28390 recharge=500\n")
+    × (bookOf (bytes "cells=1 delays=0 share=4\ntop=10000000 etdepth=1500000 vadpor=200 leak=100000 cn=80\n") ≡ bytes "code=1\n")
+    × (bookOf (bytes "cells=1 delays=0 share=20\ntop=10000000 etdepth=1500000 vadpor=200 leak=100000 cn=80\n") ≡ bytes "code=12 line=1\n")
+unfolding floorDiv usable floorUm levelUm classOf carriedOf ofBits toBits dec decF numAt numStart numGo hexAt hexGo byteAt valAt valText formAt formText manyAt sided depthOf distance slot total shifted taken spared joined countsOk noneOf risingFrom depthsOk shareOk cardOk within soilOk soilOf lifeOf nextOf slotsOf queueOf slotsOk rowOk noticeOk fieldsOk isOld isGap sounded unless fieldsVerdict verdictOf curveOf stormOf reachOf delayOf shallowOf runoffOf lackOf fadingOf etsatOf drainOf storedOf directOf rechargeOf given release curve storm delay runoff etvad lack draws etstor etsat drain sunk stored direct recharge queueAfter stepAmounts shiftAmounts amountsBy queueBy rowAfter judged answerOf newRow partAt putAt amountsFit sumsWithin addable plusOf sheetBy addedOf soilFits rowsFit cellFits refuse siteAnswer rowsBy siteRows clearNumber clearRows readReading readVoid readEntry parse countsOf rangeCounts tailAt keyAt depthsAt answerText lineText sheetText codeText malformedText entriesIn answeredOf entriesText clearedText bookOf
+shares = (refl, refl, refl)
+
 -- a last line without its end: malformed at its place, and no sheet
 pub cut : bookOf (bytes "cells=1 delays=2 depth=1000000 depth=2000000\ntop=10000000 etdepth=1500000 vadpor=200 leak=100000 cn=80\ncell=0 life=0 count=0 rain=50800 irrig=0 septic=1000 etmin=2000 pet=5000 amc=2 head=410c0000\ncell=0 life=0 count=1 rain=0 irrig=0 septic=0 etmin=2000 pet=5000 amc=2 head=410c0000") ≡ bytes "cell=0 code=0 inflow=51800 runoff=14287 etvad=2000 etstor=0 etsat=500 drain=0 release=0 stored=34513 recharge=500 left=34513\ncode=12 line=4\n"
 unfolding floorDiv usable floorUm levelUm classOf carriedOf ofBits toBits dec decF numAt numStart numGo hexAt hexGo byteAt valAt valText formAt formText manyAt sided depthOf distance slot total shifted taken spared joined countsOk noneOf risingFrom depthsOk shareOk cardOk within soilOk soilOf lifeOf nextOf slotsOf queueOf slotsOk rowOk noticeOk fieldsOk isOld isGap sounded unless fieldsVerdict verdictOf curveOf stormOf reachOf delayOf shallowOf runoffOf lackOf fadingOf etsatOf drainOf storedOf directOf rechargeOf given release curve storm delay runoff etvad lack draws etstor etsat drain sunk stored direct recharge queueAfter stepAmounts shiftAmounts amountsBy queueBy rowAfter judged answerOf newRow partAt putAt amountsFit sumsWithin addable plusOf sheetBy addedOf soilFits rowsFit cellFits refuse siteAnswer rowsBy siteRows clearNumber clearRows readReading readVoid readEntry parse countsOf rangeCounts tailAt keyAt depthsAt answerText lineText sheetText codeText malformedText entriesIn answeredOf entriesText clearedText bookOf
