@@ -14,10 +14,11 @@ mod waterbook;
 use courses::courses;
 use std::process::ExitCode;
 use times::{Step, in_numbers, millions, ratio_cells, sliced_pairs, sliced_steps, step_pairs};
+use waterbook::{CARD, NOT_THE_COUNT, SHARE_AT};
 
-/// A library's step by the name that it is linked under.
+/// A library's step by the name that it is linked under, where its cards have so many numbers.
 macro_rules! step_of {
-    ($symbol:ident) => {{
+    ($symbol:ident, $width:expr) => {{
         unsafe extern "C" {
             fn $symbol(
                 card: *const u32,
@@ -34,6 +35,7 @@ macro_rules! step_of {
         }
         // SAFETY: each pointer comes with the length of its slice, and none is kept.
         let step: Step = |card, soil, rows, reading, amounts| unsafe {
+            let card = &card[..$width];
             $symbol(
                 card.as_ptr(),
                 card.len(),
@@ -51,13 +53,22 @@ macro_rules! step_of {
     }};
 }
 
+/// The earlier library's step: where it says that a card with a share is too wide, its cards are lent without.
+fn earlier() -> Step {
+    let (whole, shareless) = (step_of!(before_step, CARD), step_of!(before_step, SHARE_AT));
+    match whole(&[0; CARD], &[], &mut [], &[0; 10], &mut [0; 10]) {
+        NOT_THE_COUNT => shareless,
+        _ => whole,
+    }
+}
+
 fn main() -> ExitCode {
     let words: Vec<String> = std::env::args().skip(1).collect();
     let [commit] = &words[..] else {
         eprintln!("usage: before NAME");
         return ExitCode::from(2);
     };
-    let (before, now) = (step_of!(before_step), step_of!(now_step));
+    let (before, now) = (earlier(), step_of!(now_step, CARD));
     println!(
         "\nSteps of the library of {commit} (before) and of this one (now), 4 cells, in millions per second;"
     );

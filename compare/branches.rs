@@ -61,6 +61,14 @@ pub const BRANCHES: &[&str] = &[
     "11 recharge, septic and a delay",
 ];
 
+/// How the storm's runoff goes: a line for each kind of share in range.
+#[rustfmt::skip]
+pub const STORMS: &[&str] = &[
+    "5, X below 0", "5, X = 0", "5, X above 0 and no runoff", "5, runoff",
+    "between, X below 0", "between, X = 0", "between, X above 0 and no runoff", "between, runoff",
+    "20, X below 0", "20, X = 0", "20, X above 0 and no runoff", "20, runoff",
+];
+
 /// A step's card, the named cell's soil numbers, its row after the step, the reading and the answer.
 pub struct Met<'a> {
     pub card: &'a Card,
@@ -84,6 +92,7 @@ pub fn accepted(met: &Met, tally: &mut Tally) {
     for name in near_a_depth(met, d).into_iter().chain(drain(met, d)).chain(deposit(met, k)) {
         tally.meet("branches", name);
     }
+    tally.meet("storm runoff by share", storm_by_share(met));
     if met.reading.septic > 0 && k > 0 {
         tally.meet("branches", "11 recharge, septic and a delay");
     }
@@ -110,13 +119,35 @@ fn curve(met: &Met) -> &'static str {
     }
 }
 
-fn storm(met: &Met) -> &'static str {
+/// The curve number of a step, its rain, and X of step 3.
+fn c_rain_and_x(met: &Met) -> (i64, i64, i64) {
     let c = curve_number(met.soil[4], met.reading.amc);
-    match c * i64::from(met.reading.rain) - 50_800 * (100 - c) {
-        0 => "3 storm runoff, X = 0",
-        x if x < 0 => "3 storm runoff, X below 0",
+    let (rain, share) = (i64::from(met.reading.rain), i64::from(met.card.share));
+    (c, rain, c * rain - 2_540 * share * (100 - c))
+}
+
+fn storm(met: &Met) -> &'static str {
+    match c_rain_and_x(met) {
+        (_, _, 0) => "3 storm runoff, X = 0",
+        (_, _, x) if x < 0 => "3 storm runoff, X below 0",
         _ => "3 storm runoff, X above 0",
     }
+}
+
+fn storm_by_share(met: &Met) -> &'static str {
+    let (c, rain, x) = c_rain_and_x(met);
+    let kind = match met.card.share {
+        5 => 0,
+        20 => 2,
+        _ => 1,
+    };
+    let way = match x.cmp(&0) {
+        std::cmp::Ordering::Less => 0,
+        std::cmp::Ordering::Equal => 1,
+        _ if storm_runoff(c, met.card.share.into(), rain) == 0 => 2,
+        _ => 3,
+    };
+    STORMS[4 * kind + way]
 }
 
 fn which_delay(met: &Met, k: usize) -> &'static str {
@@ -220,10 +251,15 @@ fn recharge(answer: &Amounts) -> &'static str {
     }
 }
 
-/// Storm runoff exactly at an edge: the rain at which X first passes 0 for a curve number.
-pub fn rain_at_the_edge(c: i64) -> i64 {
-    let mut rain = 50_800 * (100 - c) / c;
-    while storm_runoff(c, rain) == 0 && rain < 1_000_000 {
+/// The most rain that the first wetting takes whole, for a curve number and a share.
+pub fn first_loss(c: i64, share: i64) -> i64 {
+    2_540 * share * (100 - c) / c
+}
+
+/// Storm runoff exactly at an edge: the first rain that has any, for a curve number and a share, or one past the range.
+pub fn rain_at_the_edge(c: i64, share: i64) -> i64 {
+    let mut rain = first_loss(c, share);
+    while storm_runoff(c, share, rain) == 0 && rain < 1_000_000 {
         rain += 1;
     }
     rain

@@ -15,6 +15,7 @@ mod numbers;
 mod outbox;
 mod outboxes;
 mod refusals;
+mod shares;
 mod sheets;
 mod sides;
 mod steps;
@@ -34,21 +35,27 @@ use tally::Tally;
 /// All that must be met, by heading.
 const MUST: &[(&str, &[&str])] = &[
     ("branches", branches::BRANCHES),
+    ("storm runoff by share", branches::STORMS),
     ("every curve number", steps::CURVES),
+    ("every share", shares::KINDS),
     ("every delay", steps::DELAYS),
     ("every full queue", voids::QUEUES),
     ("refused for", refusals::TURNS),
     ("refused for its figures", refusals::FIGURES),
     ("voids", voids::VOIDS),
     ("voids refused for", refusals::TURNS),
+    ("clearings", refusals::CLEARINGS),
     ("heads met by the head's check", heads::CLASSES),
     ("sheets", sheets::REFUSALS),
     ("texts", texts::TEXTS),
+    ("shares read", shares::READ),
+    ("shares written", shares::WRITTEN),
     ("reading lines", entries::LINES),
     ("void lines", entries::LINES),
     ("answer lines", lines::ANSWERS),
     ("sheet lines", lines::SHEETS),
     ("journals", journals::JOURNALS),
+    ("shares in journals", shares::READ),
     ("fresh outboxes", sides::FRESH),
     ("oldest entries offered", sides::OLDEST),
     ("oldest entries replaced", sides::OLDEST),
@@ -92,8 +99,10 @@ fn round(asked: &Asked, round: u64, tally: &mut Tally) -> Result<(), String> {
     let dice = &mut dice_of(asked.seed, round);
     if round == 0 {
         steps::curves(tally)?;
+        shares::on_cards(tally)?;
         steps::delays(tally)?;
         voids::queues(tally)?;
+        shares::in_texts(tally)?;
     }
     let days = 200 + dice.below(1000);
     steps::run(dice, tally, days)?;

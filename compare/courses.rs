@@ -33,9 +33,9 @@ pub struct Course {
     pub readings: Vec<Reading>,
 }
 
-/// The card of a site with so many cells and delays.
+/// The card of a site with so many cells and delays, and the usual share.
 fn card(cells: u32, delays: u32) -> Card {
-    let mut card = Card { cells, delays, ..Card::ZEROS };
+    let mut card = Card { cells, delays, ..Card::BLANK };
     for place in 0..delays as usize {
         card.depths[place] = (FIRST + NEXT * place as i64) as u32;
     }

@@ -71,7 +71,7 @@ impl Given {
     /// The first slice that has not its count of numbers, if one has not.
     pub fn wrong_count(&self) -> Option<&'static str> {
         if self.card.len() != CARD {
-            Some("255 card")
+            Some(refusals::card_count(self.card.len()))
         } else if self.entry.len() != self.call.width() {
             Some("255 reading or void")
         } else if self.amounts.len() != AMOUNTS {

@@ -1,9 +1,10 @@
 //! Whole journals: in one call of the library, and through the program on its standard input.
 
 use crate::lent::{Lent, equal, same};
+use crate::shares;
 use crate::tally::Tally;
 use crate::texts::shown;
-use crate::waterbook::{CELLS, SOIL, book_room, raw};
+use crate::waterbook::{CELLS, LONGEST, SOIL, book_room, raw};
 use second::journal::waterbook as second_book;
 use second::made::dice::Dice;
 use second::made::{Kind, journal_of_kind};
@@ -102,6 +103,9 @@ fn made(seed: u64, place: u64, tally: &mut Tally) -> (Vec<u8>, Vec<u8>) {
     tally.meet("journals", ending(&book));
     meet_numbers(&book, tally);
     meet_voids(&journal, &book, tally);
+    if journal.len() <= LONGEST {
+        shares::meet("shares in journals", &journal, tally);
+    }
     (journal, book)
 }
 

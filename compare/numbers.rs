@@ -1,21 +1,22 @@
 //! The second program's records as the library's numbers, and back.
 
-use crate::waterbook::{AMOUNTS, CARD, NOTICE, READING, SHEET};
+use crate::waterbook::{AMOUNTS, CARD, NOTICE, READING, SHARE_AT, SHEET};
 use second::numbers::{Amounts, Card, Reading, Void};
 use second::sheet::Sheet;
 
-/// A card as 32 numbers.
+/// A card as the library's numbers.
 pub fn card_numbers(card: &Card) -> [u32; CARD] {
     let mut numbers = [0; CARD];
-    (numbers[0], numbers[1]) = (card.cells, card.delays);
-    numbers[2..].copy_from_slice(&card.depths);
+    (numbers[0], numbers[1], numbers[SHARE_AT]) = (card.cells, card.delays, card.share);
+    numbers[2..SHARE_AT].copy_from_slice(&card.depths);
     numbers
 }
 
-/// The card of 32 numbers.
+/// The card of the library's numbers.
 pub fn card_of(numbers: &[u32]) -> Card {
-    let mut card = Card { cells: numbers[0], delays: numbers[1], ..Card::ZEROS };
-    card.depths.copy_from_slice(&numbers[2..]);
+    let (cells, delays, share) = (numbers[0], numbers[1], numbers[SHARE_AT]);
+    let mut card = Card { cells, delays, share, ..Card::ZEROS };
+    card.depths.copy_from_slice(&numbers[2..SHARE_AT]);
     card
 }
 

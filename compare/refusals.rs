@@ -1,7 +1,8 @@
-//! What steps and voids were refused for.
+//! What steps, voids and clearings were refused for.
 
 use crate::heads;
 use crate::tally::Tally;
+use crate::waterbook::SHARE_AT;
 use second::numbers::{Card, Reading, Turn, turn_in_range};
 
 /// What must be refused of steps and of voids alike: slices, cards, plots, rows and turns.
@@ -13,6 +14,8 @@ pub const TURNS: &[&str] = &[
     "1 depths equal",
     "1 depths falling",
     "1 unused place",
+    "1 share below 5",
+    "1 share above 20",
     "2 soil short",
     "2 soil long",
     "2 rows short",
@@ -39,8 +42,29 @@ pub const TURNS: &[&str] = &[
     "8 life",
     "8 count",
     "255 card",
+    "255 card without its share",
     "255 reading or void",
     "255 amounts",
+];
+
+/// What clearings must come to: done on each kind of share, or refused.
+pub const CLEARINGS: &[&str] = &[
+    "0 share 5",
+    "0 share between",
+    "0 share 20",
+    "1 cells",
+    "1 delays",
+    "1 depth 0",
+    "1 depth too large",
+    "1 depths equal",
+    "1 depths falling",
+    "1 unused place",
+    "1 share below 5",
+    "1 share above 20",
+    "2 rows short",
+    "2 rows long",
+    "255 card",
+    "255 card without its share",
 ];
 
 /// What must be refused of steps alone: a reading's figures and its head.
@@ -100,6 +124,24 @@ pub fn refused(
     }
 }
 
+/// What a clearing came to.
+pub fn clearing(number: u32, card: &Card, rows: usize) -> &'static str {
+    match (number, card.share) {
+        (0, 5) => "0 share 5",
+        (0, 20) => "0 share 20",
+        (0, _) => "0 share between",
+        (1, _) => card_fault(card),
+        _ if rows < 32 * card.cells as usize => "2 rows short",
+        _ => "2 rows long",
+    }
+}
+
+/// How a card that has not its count of numbers is refused.
+pub fn card_count(numbers: usize) -> &'static str {
+    if numbers == SHARE_AT { "255 card without its share" } else { "255 card" }
+}
+
+/// What is wrong with a card; its share only where nothing else is.
 fn card_fault(card: &Card) -> &'static str {
     if !(1..=256).contains(&card.cells) {
         return "1 cells";
@@ -116,8 +158,12 @@ fn card_fault(card: &Card) -> &'static str {
         "1 depths falling"
     } else if used.windows(2).any(|two| two[0] == two[1]) {
         "1 depths equal"
-    } else {
+    } else if card.unused().iter().any(|depth| *depth != 0) {
         "1 unused place"
+    } else if card.share < 5 {
+        "1 share below 5"
+    } else {
+        "1 share above 20"
     }
 }
 

@@ -4,14 +4,14 @@ use crate::given::{Call, Given, Slices, both, take};
 use crate::lent::{Lent, equal, same};
 use crate::numbers::{card_numbers, card_of, reading_numbers};
 use crate::tally::Tally;
-use crate::waterbook::{AMOUNTS, CARD, NOT_THE_COUNT, ROW, SOIL, raw};
-use crate::{heads, sheets, wild};
+use crate::waterbook::{AMOUNTS, CARD, NOT_THE_COUNT, ROW, SHARE_AT, SOIL, raw};
+use crate::{heads, refusals, sheets, wild};
 use second::head::DRY;
 use second::made::dice::Dice;
 use second::made::readings::next_reading;
 use second::made::site::Site;
 use second::made::wet::{metres_down, wet_reading, wet_site};
-use second::numbers::{Card, Entry, MOST, Reading};
+use second::numbers::{Card, Entry, MOST, Reading, USUAL_SHARE};
 
 /// What the sweep over every curve number must meet.
 pub const CURVES: &[&str] = &[
@@ -23,16 +23,16 @@ pub const CURVES: &[&str] = &[
     "wet, below 5 and so without runoff",
 ];
 
-/// A site with a cell for every curve number, and no delays.
-fn site_of_curves() -> Site {
-    let card = Card { cells: 100, ..Card::ZEROS };
+/// A site with a cell for every curve number, a share and no delays.
+pub fn site_of_curves(share: u32) -> Site {
+    let card = Card { cells: 100, share, ..Card::BLANK };
     let soil = (1..=100).flat_map(|cn| [0, 1, 1, 0, cn]).collect();
     Site { card, soil, rows: vec![0; 100 * ROW], usual: Vec::new() }
 }
 
-/// Every curve number on dry, normal and wet ground: with the most rain and a dry head the runoff is the storm's.
+/// Every curve number on dry, normal and wet ground: at the usual share, with the most rain and a dry head.
 pub fn curves(tally: &mut Tally) -> Result<(), String> {
-    let mut given = Given::by(&site_of_curves());
+    let mut given = Given::by(&site_of_curves(USUAL_SHARE));
     let mut slices = Slices::lend(&given);
     for amc in 1..=3 {
         for cell in 0..100 {
@@ -56,7 +56,7 @@ pub const DELAYS: &[&str] = &["at its depth", "1 µm above it", "below the last 
 
 /// A site of two cells with so many delay depths a metre apart, the second cell's top a µm below the first's.
 pub fn site_of_delays(delays: u32) -> Site {
-    let mut card = Card { cells: 2, delays, ..Card::ZEROS };
+    let mut card = Card { cells: 2, delays, ..Card::BLANK };
     for k in 1..=delays {
         card.depths[k as usize - 1] = 1_000_000 * k;
     }
@@ -195,7 +195,7 @@ fn wilder(dice: &mut Dice, given: &mut Given) {
         _ if given.call == Call::Void => wild::turn(dice, &mut given.entry),
         _ => {
             let cn = given.soil.get(plot.saturating_add(4)).copied().unwrap_or(0);
-            wild::reading(dice, &mut given.entry, cn);
+            wild::reading(dice, &mut given.entry, cn, given.card[SHARE_AT]);
         }
     }
 }
@@ -231,16 +231,21 @@ pub fn clearings(dice: &mut Dice, tally: &mut Tally, times: u64) -> Result<(), S
     Ok(())
 }
 
-/// One clearing by both.
-fn clearing(card: &[u32], mut rows: Vec<u32>, tally: &mut Tally) -> Result<(), String> {
+/// One clearing by both; its number.
+pub fn clearing(card: &[u32], mut rows: Vec<u32>, tally: &mut Tally) -> Result<u32, String> {
     let (lent_card, mut lent_rows) = (Lent::new(card, 0xa5a5_a5a5), Lent::new(&rows, 0x5a5a_5a5a));
-    let number = match card.len() {
-        CARD => second::step::clear(&card_of(card), &mut rows),
-        _ => NOT_THE_COUNT,
+    let (number, name) = match card.len() {
+        CARD => {
+            let number = second::step::clear(&card_of(card), &mut rows);
+            (number, refusals::clearing(number, &card_of(card), rows.len()))
+        }
+        other => (NOT_THE_COUNT, refusals::card_count(other)),
     };
     let answered = raw::clear(lent_card.held(), lent_rows.slice());
     tally.number("clear", number);
+    tally.meet("clearings", name);
     equal("number", answered, number)?;
     same("card", &lent_card, card)?;
-    same("rows", &lent_rows, &rows)
+    same("rows", &lent_rows, &rows)?;
+    Ok(number)
 }

@@ -4,8 +4,8 @@ use crate::lent::{Lent, equal, same};
 use crate::numbers::{card_numbers, card_of};
 use crate::steps::small_site;
 use crate::tally::Tally;
-use crate::waterbook::{CARD, GOT, NOT_THE_COUNT, SOIL, raw};
-use crate::wild;
+use crate::waterbook::{CARD, CARD_TEXT, CELLS, GOT, NOT_THE_COUNT, SOIL, raw};
+use crate::{shares, wild};
 use second::made::damage::harm;
 use second::made::dice::Dice;
 use second::made::entries::{entry_bytes, next_entry};
@@ -23,6 +23,8 @@ pub const TEXTS: &[&str] = &[
     "card refused, soil slice shorter",
     "card written",
     "card written, buffer exactly as long",
+    "card written, the longest",
+    "card read, the longest",
     "card that no text gives",
     "card written with a soil slice of another length",
     "soil number that does not fit",
@@ -61,6 +63,9 @@ fn card_text(dice: &mut Dice) -> Vec<u8> {
     if dice.once_in(3) {
         any_soil(dice, &mut site);
     }
+    if dice.once_in(4) {
+        site.card.share = wild::share(dice);
+    }
     let mut bytes = card_bytes(&site);
     match dice.below(4) {
         0 => bytes.extend(entry_bytes(&next_entry(&site, dice, 4))),
@@ -83,20 +88,36 @@ fn any_soil(dice: &mut Dice, site: &mut Site) {
 /// Read a card on both sides.
 pub fn read_card(dice: &mut Dice, tally: &mut Tally) -> Result<(), String> {
     let bytes = card_text(dice);
-    let length = if dice.once_in(2) { 1280 } else { dice.place(25) };
-    let mut soil = vec![wild::any_signed(dice); length];
-    let (mut card, mut got) = (numbers_slice(dice, CARD), got_slice(dice));
-    let (text, mut lent_soil) = (Lent::new(&bytes, b' '), Lent::new(&soil, 1));
+    let length = if dice.once_in(2) { SOIL * CELLS } else { dice.place(25) };
+    let soil = vec![wild::any_signed(dice); length];
+    let (card, got) = (numbers_slice(dice, CARD), got_slice(dice));
+    card_of_text(&bytes, soil, card, got, tally)
+}
+
+/// One card's text read by both, into slices that hold these numbers.
+pub fn card_of_text(
+    bytes: &[u8],
+    mut soil: Vec<i64>,
+    mut card: Vec<u32>,
+    mut got: Vec<usize>,
+    tally: &mut Tally,
+) -> Result<(), String> {
+    let length = soil.len();
+    let (text, mut lent_soil) = (Lent::new(bytes, b' '), Lent::new(&soil, 1));
     let (mut lent_card, mut lent_got) = (Lent::new(&card, 7), Lent::new(&got, 9));
     let answered =
         raw::read_card(text.held(), lent_card.slice(), lent_soil.slice(), lent_got.slice());
     let mut number = NOT_THE_COUNT;
     if card.len() == CARD && got.len() == GOT {
-        let (taken, read) = text::read_card(&bytes, &mut soil);
+        let (taken, read) = text::read_card(bytes, &mut soil);
         number = taken.number;
         card = card_numbers(&read).to_vec();
         got = vec![taken.bytes, taken.line as usize];
         tally.meet("texts", card_read(number, taken.line, soil.len() > SOIL * read.cells as usize));
+        shares::meet("shares read", bytes, tally);
+        if taken.bytes == CARD_TEXT {
+            tally.meet("texts", "card read, the longest");
+        }
     } else {
         meet_count(&got, tally);
     }
@@ -106,8 +127,8 @@ pub fn read_card(dice: &mut Dice, tally: &mut Tally) -> Result<(), String> {
         .and_then(|()| same("got", &lent_got, &got))
         .and_then(|()| same("card", &lent_card, &card))
         .and_then(|()| same("soil", &lent_soil, &soil))
-        .and_then(|()| same("text", &text, &bytes))
-        .map_err(|what| format!("read_card\n{what}\nsoil of {length}, text\n{}", shown(&bytes)))
+        .and_then(|()| same("text", &text, bytes))
+        .map_err(|what| format!("read_card\n{what}\nsoil of {length}, text\n{}", shown(bytes)))
 }
 
 /// What reading a card came to.
@@ -138,6 +159,7 @@ pub fn write_card(dice: &mut Dice, tally: &mut Tally) -> Result<(), String> {
     let mut site = small_site(dice);
     if dice.once_in(2) {
         any_soil(dice, &mut site);
+        site.card.share = wild::share(dice);
     }
     let (mut card, mut soil) = (card_numbers(&site.card).to_vec(), site.soil.clone());
     let length = buffer_length(dice, card_bytes(&site).len());
@@ -165,7 +187,7 @@ fn wilder(dice: &mut Dice, card: &mut Vec<u32>, soil: &mut Vec<i64>) {
 }
 
 /// One card written by both.
-fn written_card(
+pub fn written_card(
     card: &[u32],
     soil: &[i64],
     buffer: &mut [u8],
@@ -180,7 +202,12 @@ fn written_card(
     if card.len() == CARD && got.len() == GOT {
         let (wanted, length) = text::write_card(&card_of(card), soil, buffer);
         (number, got) = (wanted, vec![length, 0]);
-        tally.meet("texts", card_written(number, card, soil, length == buffer.len()));
+        let name = card_written(number, card, soil, length == buffer.len());
+        tally.meet("texts", name);
+        shares::meet_written(number, &card_of(card), soil, buffer.len(), tally);
+        if length == CARD_TEXT {
+            tally.meet("texts", "card written, the longest");
+        }
     } else {
         meet_count(&got, tally);
     }
@@ -196,7 +223,7 @@ fn written_card(
 /// What writing a card came to.
 fn card_written(number: u32, card: &[u32], soil: &[i64], exact: bool) -> &'static str {
     let sized = (1..=256).contains(&card[0]) && card[1] <= 30;
-    let no_text = !sized || card[2 + card[1] as usize..].iter().any(|depth| *depth != 0);
+    let no_text = !sized || card_of(card).unused().iter().any(|depth| *depth != 0);
     let fits = |place: usize| place % SOIL == 0 || u32::try_from(soil[place]).is_ok();
     match number {
         0 if exact => "card written, buffer exactly as long",

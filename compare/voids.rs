@@ -15,6 +15,9 @@ pub const VOIDS: &[&str] = &[
     "the same life",
     "a new life",
     "the last count",
+    "share 5",
+    "share between",
+    "share 20",
 ];
 
 /// Note what an accepted void came to, given the life that its row had before.
@@ -27,7 +30,12 @@ pub fn accepted(card: &Card, life: Option<u32>, void: &Void, answer: &Amounts, t
     let waits =
         if answer.left == 0 { "nothing waits afterwards" } else { "water waits afterwards" };
     let turn = if life == Some(void.life) { "the same life" } else { "a new life" };
-    for name in [released, waits, turn] {
+    let share = match card.share {
+        5 => "share 5",
+        20 => "share 20",
+        _ => "share between",
+    };
+    for name in [released, waits, turn, share] {
         tally.meet("voids", name);
     }
     if void.count == 999_999 {

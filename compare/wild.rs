@@ -1,7 +1,8 @@
 //! Wild numbers: cards, soil numbers, rows, readings and voids at the edges of their ranges and beyond.
 
-use crate::branches::rain_at_the_edge;
+use crate::branches::{first_loss, rain_at_the_edge};
 use crate::heads;
+use crate::waterbook::SHARE_AT;
 use second::made::dice::Dice;
 use second::numbers::slot_limit;
 use std::sync::OnceLock;
@@ -25,22 +26,31 @@ pub fn any_signed(dice: &mut Dice) -> i64 {
     }
 }
 
-/// One thing done to the 32 numbers of a card in order.
+/// Any share: near its range mostly.
+pub fn share(dice: &mut Dice) -> u32 {
+    let (near, any) = (dice.below(26) as u32, any(dice));
+    dice.pick(&[near, near, near, 4, 5, 20, 21, any])
+}
+
+/// One thing done to the numbers of a card in order.
 pub fn card(dice: &mut Dice, card: &mut [u32]) {
     let last = 1 + card[1].min(30) as usize;
-    let any_place = dice.place(32);
-    match dice.below(12) {
+    let any_place = dice.place(card.len());
+    match dice.below(14) {
         0 => card[0] = dice.pick(&[0, 257, 1 << 31, u32::MAX]),
         1 => card[0] = card[0].wrapping_add(dice.pick(&[1, u32::MAX])),
         2 => card[1] = dice.pick(&[31, 32, 255, 1 << 31, u32::MAX]),
         3 => card[1] = card[1].wrapping_add(dice.pick(&[1, u32::MAX])),
-        4 if last < 31 => card[dice.within(last as i64 + 1, 31) as usize] = 1 + any(dice) / 2,
+        4 if last + 1 < SHARE_AT => {
+            card[dice.within(last as i64 + 1, SHARE_AT as i64 - 1) as usize] = 1 + any(dice) / 2
+        }
         5 if last > 1 => card[2] = 0,
         6 if last > 1 => card[last] = dice.pick(&[1_000_000_000, 1_000_000_001, u32::MAX]),
         7 if last > 2 => card[last] = card[last - 1],
         8 if last > 2 => card.swap(last, last - 1),
         9 if last > 2 => card[last - 1] = card[last].wrapping_add(1),
         10 if last > 1 => card[dice.within(2, last as i64) as usize] = any(dice),
+        11 | 12 => card[SHARE_AT] = share(dice),
         _ => card[any_place] = any(dice),
     }
 }
@@ -93,14 +103,16 @@ pub fn turn(dice: &mut Dice, turn: &mut [u32]) {
     }
 }
 
-/// The rain at which the storm's runoff starts, for each curve number.
-fn edges() -> &'static [i64] {
+/// The rain at which the storm's runoff starts, for a curve number and a share; the nearest share where that is none.
+fn edge_of(c: i64, share: u32) -> i64 {
     static EDGES: OnceLock<Vec<i64>> = OnceLock::new();
-    EDGES.get_or_init(|| (0..=100).map(|c| rain_at_the_edge(c.max(1))).collect())
+    let shares = || (5..=20).flat_map(|r| (1..=100).map(move |c| rain_at_the_edge(c, r)));
+    let edges = EDGES.get_or_init(|| shares().collect());
+    edges[100 * (share.clamp(5, 20) as usize - 5) + c as usize - 1]
 }
 
-/// A field of a reading put at an edge or beyond; the soil's curve number sets the rain's edge.
-pub fn reading(dice: &mut Dice, reading: &mut [u32], cn: i64) {
+/// A field of a reading put at an edge or beyond; the soil's curve number and the card's share set the rain's edges.
+pub fn reading(dice: &mut Dice, reading: &mut [u32], cn: i64, share: u32) {
     let (edge, any) = (dice.pick(&[999_999, 1_000_000, 1_000_001, u32::MAX]), any(dice));
     match dice.below(13) {
         0..=2 => turn(dice, &mut reading[..3]),
@@ -108,7 +120,8 @@ pub fn reading(dice: &mut Dice, reading: &mut [u32], cn: i64) {
         8 => reading[6] = reading[7].wrapping_add(dice.below(2) as u32),
         9 => reading[8] = dice.pick(&[0, 1, 2, 3, 4, u32::MAX, any]),
         10 if (1..=100).contains(&cn) => {
-            reading[3] = (edges()[cn as usize] + dice.within(-2, 1)).max(0) as u32;
+            let edges = [edge_of(cn, share), first_loss(cn, share.into())];
+            reading[3] = (dice.pick(&edges) + dice.within(-2, 1)).max(0) as u32;
             reading[8] = 2;
         }
         11 => reading[dice.place(10)] = any,

@@ -8,6 +8,8 @@ pub const SOIL: usize = 5;
 pub const ROW: usize = 32;
 /// The largest single water field of a reading, in micrometres.
 pub const MOST: u32 = 1_000_000;
+/// The share that a card has whose text names none.
+pub const USUAL_SHARE: u32 = 20;
 
 /// The card of a site, with its delay depths.
 #[derive(Clone, Copy, Debug, PartialEq, Eq)]
@@ -15,6 +17,8 @@ pub struct Card {
     pub cells: u32,
     pub delays: u32,
     pub depths: [u32; ROOM],
+    /// How much of the storage the first wetting takes, in whole percent.
+    pub share: u32,
 }
 
 /// One reading; the head is kept as its 32 bits.
@@ -67,7 +71,10 @@ pub struct Amounts {
 
 impl Card {
     /// A card of zeros.
-    pub const ZEROS: Card = Card { cells: 0, delays: 0, depths: [0; ROOM] };
+    pub const ZEROS: Card = Card { cells: 0, delays: 0, depths: [0; ROOM], share: 0 };
+
+    /// A card to fill in: nothing on it but the usual share.
+    pub const BLANK: Card = Card { share: USUAL_SHARE, ..Card::ZEROS };
 
     /// The delay depths in use, M of them.
     pub fn used(&self) -> &[u32] {
@@ -84,12 +91,13 @@ impl Card {
         (1..=256).contains(&self.cells) && self.delays <= 30
     }
 
-    /// All the card's ranges, rising depths, and zeros in unused places.
+    /// All the card's ranges, the share's too, rising depths, and zeros in unused places.
     pub fn in_range(&self) -> bool {
         self.sized()
             && self.used().iter().all(|d| (1..=1_000_000_000).contains(d))
             && self.used().windows(2).all(|pair| pair[0] < pair[1])
             && self.unused().iter().all(|d| *d == 0)
+            && (5..=20).contains(&self.share)
     }
 }
 

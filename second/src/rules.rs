@@ -45,10 +45,10 @@ fn nearest(above: i64, below: i64) -> i64 {
     (2 * above + below) / (2 * below)
 }
 
-/// 3. Storm runoff q.
-pub fn storm_runoff(c: i64, rain: i64) -> i64 {
-    let x = c * rain - 50_800 * (100 - c);
-    let y = c * rain + 203_200 * (100 - c);
+/// 3. Storm runoff q, where the first wetting takes r percent of the storage.
+pub fn storm_runoff(c: i64, r: i64, rain: i64) -> i64 {
+    let x = c * rain - 2_540 * r * (100 - c);
+    let y = c * rain + 2_540 * (100 - r) * (100 - c);
     if x <= 0 {
         0
     } else {
@@ -136,7 +136,7 @@ pub fn day(card: &Card, soil: &[i64], slots: &mut Slots, r: &Reading, d: i64) ->
 
     let release = shift(slots, delays);
     let c = curve_number(cn, r.amc);
-    let q = storm_runoff(c, rain);
+    let q = storm_runoff(c, i64::from(card.share), rain);
     let k = delay(card, d);
     let runoff = runoff(d, k, vadpor, g, q);
     let etvad = etvad(g, runoff, pet, etmin, irrig);

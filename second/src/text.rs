@@ -1,6 +1,6 @@
 //! "Text": cards, readings, voids, answers and sheets as lines of key=value pairs.
 
-use crate::numbers::{Amounts, Card, Entry, Reading, Turn, Void, SOIL};
+use crate::numbers::{Amounts, Card, Entry, Reading, Turn, Void, SOIL, USUAL_SHARE};
 use crate::sheet::Sheet;
 use std::str::FromStr;
 
@@ -57,7 +57,17 @@ fn head_bits<'a>(words: &mut impl Iterator<Item = &'a [u8]>) -> Option<u32> {
     (format!("{bits:08x}") == digits).then_some(bits)
 }
 
-/// The card's own line: cells, delays, and a depth for each delay.
+/// The rest of a card's line: nothing for the usual share, or the key with any other.
+fn share_word<'a>(words: impl Iterator<Item = &'a [u8]>) -> Option<u32> {
+    let mut words = words.peekable();
+    if words.peek().is_none() {
+        return Some(USUAL_SHARE);
+    }
+    let share = decimal(&mut words, "share")?;
+    (share != USUAL_SHARE && words.next().is_none()).then_some(share)
+}
+
+/// The card's own line: cells, delays, a depth for each delay, and a share that is not the usual one.
 fn card_line(line: &[u8]) -> Option<Card> {
     let mut words = words(line);
     let mut card = Card::ZEROS;
@@ -69,7 +79,8 @@ fn card_line(line: &[u8]) -> Option<Card> {
     for place in 0..card.delays as usize {
         card.depths[place] = decimal(&mut words, "depth")?;
     }
-    words.next().is_none().then_some(card)
+    card.share = share_word(words)?;
+    Some(card)
 }
 
 /// The line of one cell: its five soil numbers.
@@ -215,6 +226,9 @@ fn card_text(card: &Card, soil: &[i64]) -> String {
     let mut text = format!("cells={} delays={}", card.cells, card.delays);
     for depth in card.used() {
         text += &format!(" depth={depth}");
+    }
+    if card.share != USUAL_SHARE {
+        text += &format!(" share={}", card.share);
     }
     text.push('\n');
     for plot in soil.chunks(SOIL) {

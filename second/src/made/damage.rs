@@ -31,7 +31,7 @@ const VALUES: [&str; 22] = [
 ];
 
 /// Card lines whose numbers are at an edge.
-const CARDS: [&str; 10] = [
+const CARDS: [&str; 16] = [
     "cells=0 delays=0",
     "cells=257 delays=0",
     "cells=256 delays=0",
@@ -42,6 +42,46 @@ const CARDS: [&str; 10] = [
     "cells=1 delays=4294967295",
     "cells=2 delays=0",
     "cells=1 delays=0",
+    "cells=1 delays=0 share=5",
+    "cells=2 delays=0 share=20",
+    "cells=1 delays=1 share=5",
+    "cells=1 delays=1 depth=5 share=19",
+    "cells=256 delays=0 share=4",
+    "share=5",
+];
+
+/// Words at the place of a card's share: malformed ones, then some with shares out of range, and one in it.
+pub const SHARES: [&str; 30] = [
+    "share=20",
+    "share=020",
+    "share=05",
+    "share=00",
+    "share=",
+    "share",
+    "share=-5",
+    "share=-0",
+    "share=+5",
+    "share=4294967296",
+    "share=4294967301",
+    "share=18446744073709551621",
+    "share=5.0",
+    "share=5%",
+    "share=0x5",
+    "share=5\t",
+    "share=5\r",
+    "share=5 ",
+    "share= 5",
+    "share =5",
+    "share==5",
+    "shares=5",
+    "Share=5",
+    "SHARE=5",
+    "share=0",
+    "share=4",
+    "share=21",
+    "share=25",
+    "share=4294967295",
+    "share=5",
 ];
 
 /// A journal with damage done to it.
@@ -50,6 +90,9 @@ pub fn damaged(dice: &mut Dice) -> Vec<u8> {
         return Vec::new();
     }
     let mut site = Site::made(dice);
+    if dice.once_in(8) {
+        site.foul_card(dice);
+    }
     let count = dice.below(12);
     let mut bytes = entries::journal(&mut site, dice, count);
     let times = if dice.once_in(6) { 2 } else { 1 };
@@ -64,7 +107,7 @@ pub fn harm(dice: &mut Dice, bytes: &mut Vec<u8>) {
     if bytes.is_empty() {
         return;
     }
-    match dice.below(10) {
+    match dice.below(11) {
         0 => one_byte(dice, bytes),
         1 | 2 => at_a_space(dice, bytes),
         3 | 4 => at_a_value(dice, bytes),
@@ -72,6 +115,7 @@ pub fn harm(dice: &mut Dice, bytes: &mut Vec<u8>) {
         6 => at_a_line(dice, bytes),
         7 => at_the_end(dice, bytes),
         8 => at_a_void(dice, bytes),
+        9 => at_the_share(dice, bytes),
         _ => at_the_card(dice, bytes),
     }
 }
@@ -118,6 +162,11 @@ fn at_a_space(dice: &mut Dice, bytes: &mut Vec<u8>) {
 fn word_end(bytes: &[u8], start: usize) -> usize {
     let ends = |byte: &u8| *byte == b' ' || *byte == b'\n';
     bytes[start..].iter().position(ends).map_or(bytes.len(), |length| start + length)
+}
+
+/// The place where the line that this place is in ends.
+fn line_end(bytes: &[u8], start: usize) -> usize {
+    bytes[start..].iter().position(|b| *b == b'\n').map_or(bytes.len(), |length| start + length)
 }
 
 /// Put a strange value in the place of some value, or a sign or zero before it.
@@ -167,7 +216,7 @@ fn at_a_void(dice: &mut Dice, bytes: &mut Vec<u8>) {
     if bytes[start] != b'v' {
         return drop(bytes.splice(start..start, *b"void "));
     }
-    let end = bytes[start..].iter().position(|b| *b == b'\n').map_or(bytes.len(), |n| start + n);
+    let end = line_end(bytes, start);
     match dice.below(8) {
         0 => bytes[start..start + 4].make_ascii_uppercase(),
         1 => drop(bytes.drain(start..start + 5)),
@@ -178,6 +227,37 @@ fn at_a_void(dice: &mut Dice, bytes: &mut Vec<u8>) {
         6 => drop(bytes.splice(end..end, *b" rain=0")),
         _ => drop(bytes.splice(end..end, *b" void")),
     }
+}
+
+/// Give the first line another share, two of them, one at a wrong place, or none; or give one to another line.
+fn at_the_share(dice: &mut Dice, bytes: &mut Vec<u8>) {
+    let end = line_end(bytes, 0);
+    let mut words: Vec<Vec<u8>> = bytes[..end].split(|b| *b == b' ').map(<[u8]>::to_vec).collect();
+    words.retain(|word| !word.starts_with(b"share="));
+    let [some, other] = [0, 1].map(|_| format!("share={}", dice.below(26)).into_bytes());
+    match dice.below(12) {
+        0 => words.extend([some.clone(), some]),
+        1 => words.extend([some, other]),
+        2 => words.extend([Vec::new(), some]),
+        3 | 4 => words.insert(dice.place(words.len().max(1)), some),
+        5 => return share_elsewhere(dice, bytes, (end + 1).min(bytes.len())),
+        6 => {}
+        _ => words.push(dice.pick(&SHARES).as_bytes().to_vec()),
+    }
+    bytes.splice(..end, words.join(&b' '));
+}
+
+/// Put a share behind the first line's end, where the next line starts, or at the end of some line.
+fn share_elsewhere(dice: &mut Dice, bytes: &mut Vec<u8>, next: usize) {
+    let some_end = find(dice, bytes, b'\n').unwrap_or(bytes.len());
+    let (place, share) = dice.pick(&[
+        (next, "share=5\n"),
+        (next, " share=5\n"),
+        (next, "share=5 "),
+        (line_end(bytes, next), " share=5"),
+        (some_end, " share=5"),
+    ]);
+    bytes.splice(place..place, share.bytes());
 }
 
 /// Take out, repeat, move or blank a line, or put CR or a space at its end.

@@ -4,7 +4,8 @@ use super::dice::Dice;
 use super::site::{wanted_depth, Site, HEADS};
 use crate::head::{depth, DRY, INACTIVE};
 use crate::journal::LONGEST;
-use crate::numbers::{Reading, ROW, SOIL};
+use crate::numbers::{Reading, MOST, ROW, SOIL};
+use crate::rules::curve_number;
 use crate::text::{write_card, write_reading};
 
 /// The text of a site's card.
@@ -57,6 +58,9 @@ fn good_reading(site: &Site, dice: &mut Dice) -> Reading {
     if dice.once_in(4) {
         fill_pores(site, dice, &mut reading);
     }
+    if dice.once_in(8) {
+        wet_first(site, dice, &mut reading);
+    }
     if dice.once_in(15) {
         swap_battery(dice, &mut reading);
     }
@@ -67,7 +71,7 @@ fn good_reading(site: &Site, dice: &mut Dice) -> Reading {
 fn water(dice: &mut Dice) -> u32 {
     match dice.below(8) {
         0 => dice.pick(&[0, 1, 2, 999_999, 1_000_000]),
-        1 => dice.pick(&[12_952, 12_953, 50_800, 5_000, 2_000, 1_000_000]),
+        1 => dice.pick(&[12_952, 12_953, 3_427, 3_428, 50_800, 5_000, 2_000, 1_000_000]),
         2 | 3 => dice.below(1_000_001) as u32,
         4 | 5 => dice.below(100_001) as u32,
         _ => dice.below(5_001) as u32,
@@ -112,6 +116,21 @@ fn fill_pores(site: &Site, dice: &mut Dice, reading: &mut Reading) {
             reading.irrig = dice.below(room as u64 + 1) as u32;
             reading.rain -= reading.irrig;
         }
+    }
+}
+
+/// Set rain about where the first wetting ends and runoff starts.
+fn wet_first(site: &Site, dice: &mut Dice, reading: &mut Reading) {
+    let cn = site.soil[SOIL * reading.cell as usize + 4];
+    if !(1..=100).contains(&cn) {
+        return;
+    }
+    let c = curve_number(cn, reading.amc);
+    let first = 2_540 * i64::from(site.card.share) * (100 - c) / c;
+    let more = dice.below(600) as i64;
+    let rain = first + dice.pick(&[-1, 0, 1, 252, 253, 254, more, more]);
+    if (0..=i64::from(MOST)).contains(&rain) {
+        reading.rain = rain as u32;
     }
 }
 

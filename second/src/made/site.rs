@@ -2,7 +2,7 @@
 
 use super::dice::Dice;
 use crate::head::micrometres;
-use crate::numbers::{Card, ROW, SOIL};
+use crate::numbers::{Card, ROW, SOIL, USUAL_SHARE};
 use std::collections::BTreeSet;
 
 /// Heads with something special about them, usable or not.
@@ -72,8 +72,12 @@ impl Site {
         site
     }
 
-    /// Put a fault into the card's depths.
+    /// Put a fault into the card's share or its depths.
     pub fn foul_card(&mut self, dice: &mut Dice) {
+        if dice.once_in(2) {
+            self.card.share = foul_share(dice);
+            return;
+        }
         if self.card.delays == 0 {
             self.card.delays = 1;
             self.card.depths[0] = 1000;
@@ -116,11 +120,25 @@ fn made_card(dice: &mut Dice) -> Card {
     };
     let some = dice.within(0, 30);
     let delays = dice.pick(&[0, 1, 2, 3, 5, 29, 30, some, some, some]);
-    let mut card = Card { cells: cells as u32, delays: delays as u32, ..Card::ZEROS };
+    let share = made_share(dice);
+    let mut card = Card { cells: cells as u32, delays: delays as u32, share, ..Card::BLANK };
     for (place, depth) in made_depths(dice, delays as usize).into_iter().enumerate() {
         card.depths[place] = depth;
     }
     card
+}
+
+/// A share in range: the usual one half of the time, the least often enough.
+pub fn made_share(dice: &mut Dice) -> u32 {
+    let some = dice.within(5, 20) as u32;
+    dice.pick(&[USUAL_SHARE, USUAL_SHARE, USUAL_SHARE, USUAL_SHARE, 5, some, some, some])
+}
+
+/// A share out of range: just below or above it mostly, or one that looks right in fewer bits.
+fn foul_share(dice: &mut Dice) -> u32 {
+    let (below, above) = (dice.below(5) as u32, 21 + dice.below(5) as u32);
+    let far = dice.pick(&[100, 256 + 20, 65_536 + 5, 1 << 31, (1 << 31) + 10, u32::MAX]);
+    dice.pick(&[below, below, above, above, far])
 }
 
 /// So many rising delay depths, close together or far apart.

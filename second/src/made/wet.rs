@@ -3,7 +3,7 @@
 use super::dice::Dice;
 use super::entries::entry_bytes;
 use super::readings::{card_bytes, fault};
-use super::site::Site;
+use super::site::{made_share, Site};
 use crate::head::DRY;
 use crate::numbers::{Card, Entry, Reading, ROW};
 use crate::step::enter;
@@ -12,7 +12,7 @@ use crate::step::enter;
 pub fn wet_site(dice: &mut Dice) -> Site {
     let some = dice.within(1, 30);
     let delays = dice.pick(&[1, 2, 3, 30, 30, some]) as u32;
-    let mut card = Card { cells: 1, delays, ..Card::ZEROS };
+    let mut card = Card { cells: 1, delays, share: made_share(dice), ..Card::BLANK };
     for k in 1..=delays {
         card.depths[k as usize - 1] = 1_000_000 * k;
     }

@@ -7,15 +7,15 @@ use crate::step::step;
 
 #[test]
 fn storm_runoff_of_80() {
-    assert_eq!(storm_runoff(80, 12_952), 0);
-    assert_eq!(storm_runoff(80, 12_953), 1);
-    assert_eq!(storm_runoff(80, 50_800), 14_287);
+    assert_eq!(storm_runoff(80, 20, 12_952), 0);
+    assert_eq!(storm_runoff(80, 20, 12_953), 1);
+    assert_eq!(storm_runoff(80, 20, 50_800), 14_287);
 }
 
 #[test]
 fn storm_runoff_of_100_without_rain() {
-    assert_eq!(storm_runoff(100, 0), 0);
-    assert_eq!(storm_runoff(100, 1), 1);
+    assert_eq!(storm_runoff(100, 20, 0), 0);
+    assert_eq!(storm_runoff(100, 20, 1), 1);
 }
 
 /// The handbook's table: a normal number, then the dry and the wet one for it.
@@ -89,10 +89,10 @@ fn dry_is_never_above_normal_and_wet_never_below() {
     }
 }
 
-/// At the most rain each curve number from 5 up has its own runoff; one below 5 has none.
+/// At the most rain and the usual share each curve number from 5 up has its own runoff; one below 5 has none.
 #[test]
 fn curve_numbers_from_5_up_show() {
-    let most = |c| storm_runoff(c, 1_000_000);
+    let most = |c| storm_runoff(c, 20, 1_000_000);
     assert_eq!([0, 1, 2, 3, 4, 5].map(most), [0, 0, 0, 0, 0, 249]);
     assert!((5..=100).all(|c| most(c - 1) < most(c)));
 }

@@ -1,4 +1,4 @@
-//! The page's own cases, each refusal number, voids, texts, books, made journals and the outbox.
+//! The page's own cases, each refusal number, voids, shares, texts, books, made journals and the outbox.
 
 mod book;
 mod edges;
@@ -7,6 +7,8 @@ mod link;
 mod made;
 mod outbox;
 mod refusals;
+mod share_texts;
+mod shares;
 mod sheets;
 mod texts;
 mod void_texts;
@@ -16,7 +18,7 @@ use crate::numbers::{Card, Reading};
 
 /// A card of so many cells with these delay depths.
 fn card(cells: u32, depths: &[u32]) -> Card {
-    let mut card = Card { cells, delays: depths.len() as u32, ..Card::ZEROS };
+    let mut card = Card { cells, delays: depths.len() as u32, ..Card::BLANK };
     card.depths[..depths.len()].copy_from_slice(depths);
     card
 }
