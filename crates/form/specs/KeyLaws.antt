@@ -116,9 +116,9 @@ module _ (f : List ℕ) (d : ℕ) (s : List ℕ) (at : ℕ) (t : Taken) (e : t �
     value : w ≡ wordOf (getD (formAt f s at .vals) 0 (pos 0))
     value = ew ∙ ap (λ (x : List ℤ). wordOf (getD x 0 (pos 0))) (ev ∙ sets-all (pos 0 ∷ []) (formAt f s at .vals) (form-length f s at stood ∙ m))
 
-    pub key-same : w ≡ d → badKey ≡ keyAt f d s at
+    pub key-bad : w ≡ d → badKey ≡ keyAt f d s at
     unfolding keyAt
-    key-same g = rw (stood, ← value, eq-eqb w d g)
+    key-bad g = rw (stood, ← value, eq-eqb w d g)
 
     pub key-on : (w ≡ d → ⊥) → keyOf (t .next) w ≡ keyAt f d s at
     unfolding keyAt
