@@ -18,17 +18,18 @@ use Rattle.cell.specs.declared.Refusal.the-variants.{BadCard}
 use Rattle.cell.specs.declared.ranges.Soil.{Soil}
 use Rattle.cell.specs.declared.checks.Verdict.{Verdict}
 use Rattle.cell.specs.declared.checks.Verdict.the-variants.{Fine, Bad}
-use Rattle.cell.specs.Ranges.{cardOk, soilOk, soilOf, queueOf, rowOk, noticeOk, noticeOf, lifeOf, nextOf}
+use Rattle.cell.specs.Ranges.{cardOk, soilOk, soilOf, queueOf, rowWidth, rowOk, noticeOk, noticeOf, lifeOf, nextOf}
 use Rattle.cell.specs.Depth.{dryDepth}
 use Rattle.cell.specs.Refusals.{unless, fieldsVerdict, verdictOf}
-use Rattle.cell.specs.CheckLaws.{Passed, passed, verdict-fine, verdict-card, checked, InOrder, order-is, order-old, order-gap}
+use Rattle.cell.specs.CheckLaws.{Passed, passed, final-passed, final-fine, verdict-card, checked, InOrder, order-is, order-old, order-gap}
 use Rattle.cell.specs.Parts.{Checked}
 use Rattle.cell.specs.Queue.{slot, just, total, shifted, spared}
 use Rattle.cell.specs.QueueLaws.{just-none, total-in, total-shifted, total-cleared, slot-empty, slot-cleared, slot-shifted, slot-spared, slot-joined, length-shifted, length-spared}
-use Rattle.cell.specs.Step.{release, runoff, etvad, etstor, etsat, drain, stored, direct, recharge, queueAfter, stepAmounts, shiftAmounts, amountsBy, queueBy, rowAfter, delayBy, drawsBy, judged, answerOf, newRow, stepDelay, stepDraws, delay, draws, lack}
-use Rattle.cell.specs.StepLaws.{given-most, delay-most, given-parts, stored-none, draws-total, draws-length, totals, recharge-parts, row-queue, runoff-given, plants-pet, drain-most, stored-most, release-most, recharge-most, after-in, after-length, queue-in, queue-length, row-life, row-next, row-kept, row-length}
+use Rattle.cell.specs.Step.{release, runoff, etvad, etstor, etsat, drain, stored, direct, recharge, queueAfter, stepAmounts, shiftAmounts, amountsBy, queueBy, rowMoved, runoffBy, drainBy, rowAfter, sumsTake, delayBy, drawsBy, judged, finalOf, answerOf, newRow, stepDelay, stepDraws, delay, draws, lack}
+use Rattle.cell.specs.StepLaws.{given-most, delay-most, given-parts, stored-none, draws-total, draws-length, totals, recharge-parts, row-queue, runoff-given, plants-pet, drain-most, stored-most, release-most, recharge-most, after-in, after-length, queue-in, queue-length, row-life, row-next, row-runoff, row-drain, row-kept, row-length}
 use Rattle.cell.specs.Still.{readingOf}
-use Rattle.cell.specs.StillLaws.{amounts-as, queue-as, row-as}
+use Rattle.cell.specs.StillLaws.{amounts-as, queue-as, row-as, take-as}
+use Rattle.cell.specs.Sums.{runoffAt, drainAt, sumOf, added}
 
 -- the range of each amount
 pub record AmountsIn (a : Amounts) : Type 0 where
@@ -65,6 +66,7 @@ pub record Moves (q : List ℕ) (a : Amounts) (k : ℕ) (ds q' : List ℕ) : Typ
 pub record Taken (card : Card) (soil : List ℤ) (row : List ℕ) (e : Entry) (a : Amounts) : Type 0 where
   pub depth : Depth
   pub checks : Passed card soil row e depth
+  pub room : sumsTake card (soilOf soil) e depth row ≡ true
   pub ranges : Checked card (soilOf soil) (readingOf e) depth
   pub amounts-by : a ≡ amountsBy card (soilOf soil) e depth (queueOf (card .delays) row)
   pub amounts-are : a ≡ stepAmounts card (soilOf soil) (readingOf e) depth (queueOf (card .delays) row)
@@ -136,7 +138,7 @@ module _ (card : Card) (soil : List ℤ) (row : List ℕ) (e : Entry) where
   -- refused, the row is as it came
   pub stays : (why : Refusal) → answerOf card soil row e ≡ Refused why → newRow card soil row e ≡ row
   unfolding answerOf newRow judged
-  stays why g = go (verdictOf card soil row e) g
+  stays why g = go (finalOf card soil row e) g
     where
       go : (v : Verdict) → judged v (λ d. Accepted (amountsBy card (soilOf soil) e d (queueOf (card .delays) row))) (λ b. Refused b) ≡ Refused why → judged v (λ d. rowAfter card (soilOf soil) e d row) (λ b. row) ≡ row
       go (Fine d) f = let z : _≡_ {A = ℕ} 0 1 = cc in absurd (omega arith)
@@ -144,28 +146,30 @@ module _ (card : Card) (soil : List ℤ) (row : List ℕ) (e : Entry) where
 
   -- a bad card is refused with 1, whatever else is wrong
   pub bad-card : cardOk card ≡ false → answerOf card soil row e ≡ Refused BadCard
-  unfolding answerOf judged
+  unfolding answerOf finalOf judged
   bad-card f = rw (verdict-card card soil row e f)
 
   -- an entry that passes every check is accepted, and the row is the step's
-  pub lets-through : (d : Depth) → Passed card soil row e d → answerOf card soil row e ≡ Accepted (amountsBy card (soilOf soil) e d (queueOf (card .delays) row))
+  pub lets-through : (d : Depth) → Passed card soil row e d → sumsTake card (soilOf soil) e d row ≡ true → answerOf card soil row e ≡ Accepted (amountsBy card (soilOf soil) e d (queueOf (card .delays) row))
   unfolding answerOf judged
-  lets-through d p = rw (verdict-fine card soil row e d p)
+  lets-through d p k = rw (final-fine card soil row e d p k)
 
-  pub row-through : (d : Depth) → Passed card soil row e d → newRow card soil row e ≡ rowAfter card (soilOf soil) e d row
+  pub row-through : (d : Depth) → Passed card soil row e d → sumsTake card (soilOf soil) e d row ≡ true → newRow card soil row e ≡ rowAfter card (soilOf soil) e d row
   unfolding newRow judged
-  row-through d p = rw (verdict-fine card soil row e d p)
+  row-through d p k = rw (final-fine card soil row e d p k)
 
-  taken-at : (a : Amounts) (d : Depth) → verdictOf card soil row e ≡ Fine d → amountsBy card (soilOf soil) e d (queueOf (card .delays) row) ≡ a → Taken card soil row e a
+  taken-at : (a : Amounts) (d : Depth) → finalOf card soil row e ≡ Fine d → amountsBy card (soilOf soil) e d (queueOf (card .delays) row) ≡ a → Taken card soil row e a
   unfolding newRow stepDelay stepDraws judged
   taken-at a d f ea =
-      let p = passed card soil row e d f in
+      let fp = final-passed card soil row e d f in
+      let p = passed card soil row e d (fp .0) in
       let h = checked card soil row e d p in
       let q = queueOf (card .delays) row in
       let top = getD soil 0 (pos 0) in
       record {
         depth = d;
         checks = p;
+        room = fp .1;
         ranges = h;
         amounts-by = sym ea;
         amounts-are = sym ea ∙ amounts-as card (soilOf soil) top e d (p .fields-fine) h q;
@@ -176,9 +180,9 @@ module _ (card : Card) (soil : List ℤ) (row : List ℕ) (e : Entry) where
 
   pub step-taken : (a : Amounts) → answerOf card soil row e ≡ Accepted a → Taken card soil row e a
   unfolding answerOf judged
-  step-taken a g = go (verdictOf card soil row e) refl
+  step-taken a g = go (finalOf card soil row e) refl
     where
-      go : (v : Verdict) → verdictOf card soil row e ≡ v → Taken card soil row e a
+      go : (v : Verdict) → finalOf card soil row e ≡ v → Taken card soil row e a
       go (Fine d) f =
           let s : Accepted (amountsBy card (soilOf soil) e d (queueOf (card .delays) row)) ≡ Accepted a = rw f at g in
           taken-at a d f (cc)
@@ -203,11 +207,29 @@ module _ (card : Card) (soil : List ℤ) (row : List ℕ) (e : Entry) where
     pub next-after : nextOf (newRow card soil row e) ≡ noticeOf e .count + 1
     next-after = rw (t .row-is) (row-next card (soilOf soil) e (t .depth) row)
 
-    -- a row in range stays in range
-    pub range-after : rowOk (card .delays) (newRow card soil row e) ≡ true
-    range-after = rw (t .row-read) (row-kept card (soilOf soil) (readingOf e) (t .depth) (t .ranges) row (t .checks .row-ok))
+    room-read : sumsTake card (soilOf soil) (Entry.Reading (readingOf e)) (t .depth) row ≡ true
+    room-read = take-as card (soilOf soil) (getD soil 0 (pos 0)) e (t .depth) (t .checks .fields-fine) (t .ranges) row (t .checks .row-ok) ∙ t .room
 
-    pub length-after : length (newRow card soil row e) ≡ 32
+    -- [6] the sums have grown by what the answer says ran off and drained
+    pub runoff-after : sumOf runoffAt (newRow card soil row e) ≡ sumOf runoffAt row + a .runoff .0
+    unfolding stepAmounts
+    runoff-after =
+        ap (sumOf runoffAt) (t .row-read)
+        ∙ row-runoff card (soilOf soil) (readingOf e) (t .depth) (t .ranges) row (t .checks .row-ok)
+        ∙ ap (λ (b : Amounts). sumOf runoffAt row + b .runoff .0) (sym (t .amounts-are))
+
+    pub drain-after : sumOf drainAt (newRow card soil row e) ≡ sumOf drainAt row + a .drain .0
+    unfolding stepAmounts
+    drain-after =
+        ap (sumOf drainAt) (t .row-read)
+        ∙ row-drain card (soilOf soil) (readingOf e) (t .depth) (t .ranges) row (t .checks .row-ok)
+        ∙ ap (λ (b : Amounts). sumOf drainAt row + b .drain .0) (sym (t .amounts-are))
+
+    -- a row in range stays in range
+    pub range-after : rowOk card (newRow card soil row e) ≡ true
+    range-after = rw (t .row-read) (row-kept card (soilOf soil) (readingOf e) (t .depth) (t .ranges) row (t .checks .row-ok) room-read)
+
+    pub length-after : length (newRow card soil row e) ≡ rowWidth card
     length-after = rw (t .row-read) (row-length card (soilOf soil) (readingOf e) (t .depth) (t .ranges) row (t .checks .row-ok))
 
     -- the queue of the row, before and after
@@ -254,18 +276,25 @@ module _ (card : Card) (soil : List ℤ) (row : List ℕ) (e : Entry) where
 
 -- [3] a void in order, with its life and count in range, is accepted wherever card, soil numbers and row are in range: the queue shifts, and the count is used up
 module _ (card : Card) (soil : List ℤ) (row : List ℕ) (n : Notice)
-    (c : cardOk card ≡ true) (s : soilOk soil ≡ true) (w : rowOk (card .delays) row ≡ true) (k : noticeOk n ≡ true) (o : InOrder (lifeOf row) (nextOf row) n) where
+    (c : cardOk card ≡ true) (s : soilOk soil ≡ true) (w : rowOk card row ≡ true) (k : noticeOk n ≡ true) (o : InOrder (lifeOf row) (nextOf row) n) where
   void-checks : Passed card soil row (Entry.Void n) dryDepth
   unfolding fieldsVerdict unless
   void-checks = record { card-ok = c; soil-ok = s; row-ok = w; not-old = order-old (lifeOf row) (nextOf row) n o; not-gap = order-gap (lifeOf row) (nextOf row) n o; fields-fine = rw k }
 
+  -- [6] 15 is not asked
+  void-takes : sumsTake card (soilOf soil) (Entry.Void n) dryDepth row ≡ true
+  unfolding sumsTake
+  void-takes = refl
+
   pub void-through : answerOf card soil row (Entry.Void n) ≡ Accepted (shiftAmounts (queueOf (card .delays) row))
   unfolding amountsBy
-  void-through = lets-through card soil row (Entry.Void n) dryDepth void-checks
+  void-through = lets-through card soil row (Entry.Void n) dryDepth void-checks void-takes
 
-  pub void-row : newRow card soil row (Entry.Void n) ≡ n .life ∷ (n .count + 1) ∷ (shifted (queueOf (card .delays) row) ++ drop (card .delays) (drop 2 row))
-  unfolding rowAfter queueBy
-  void-row = row-through card soil row (Entry.Void n) dryDepth void-checks
+  -- its sums have grown by 0
+  pub void-row : newRow card soil row (Entry.Void n)
+      ≡ added drainAt 0 (added runoffAt 0 (n .life ∷ (n .count + 1) ∷ (shifted (queueOf (card .delays) row) ++ drop (card .delays) (drop 2 row))))
+  unfolding rowAfter runoffBy drainBy rowMoved queueBy
+  void-row = row-through card soil row (Entry.Void n) dryDepth void-checks void-takes
 
 -- what an accepted void answers: release is recharge, other amounts are 0 but left
 pub record OnlyRelease (a : Amounts) : Type 0 where
@@ -286,7 +315,7 @@ void-amounts card soil row n a g =
 -- and it draws from no slot
 pub void-draws : (card : Card) (soil : List ℤ) (row : List ℕ) (n : Notice) (i : ℕ) → slot (stepDraws card soil row (Entry.Void n)) i ≡ 0
 unfolding stepDraws judged drawsBy
-void-draws card soil row n i = go (verdictOf card soil row (Entry.Void n))
+void-draws card soil row n i = go (finalOf card soil row (Entry.Void n))
   where
     q : List ℕ
     q = queueOf (card .delays) row

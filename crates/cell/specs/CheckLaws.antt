@@ -1,8 +1,8 @@
 -- What is known where every check has passed, and what the order of lives and counts lets through. Assumes nothing.
-use mathlib.Core.Path.{_≡_, refl, _∙_}
+use mathlib.Core.Path.{_≡_, refl, sym, ap, _∙_}
 use mathlib.Core.Bool.{Bool, true, false, cond, not, _&&_, _||_, and-false}
 use mathlib.Core.Logic.{_⊎_, inl, inr}
-use mathlib.Core.List.{List, [], _∷_}
+use mathlib.Core.List.{List, [], _∷_, _++_}
 use Prim.Native.Nat.{ℕ, _≤_, _<_}
 use native.Mathlib.Decide.{ℕ-discrete}
 use native.Mathlib.Omega.{arith}
@@ -22,15 +22,15 @@ use Rattle.cell.specs.declared.Depth.{Depth}
 use Rattle.cell.specs.declared.Entry.{Entry}
 use Rattle.cell.specs.declared.Notice.{Notice}
 use Rattle.cell.specs.declared.Refusal.{Refusal}
-use Rattle.cell.specs.declared.Refusal.the-variants.{BadCard, BadLengths, BadCell, BadSoil, BadRow, Old, Gap, BadReading, UnusableHead, InactiveHead}
+use Rattle.cell.specs.declared.Refusal.the-variants.{BadCard, BadLengths, BadCell, BadSoil, BadRow, Old, Gap, BadReading, UnusableHead, InactiveHead, FullSums}
 use Rattle.cell.specs.declared.checks.Verdict.{Verdict}
 use Rattle.cell.specs.declared.checks.Verdict.the-variants.{Fine, Bad}
 use Rattle.cell.specs.Parts.{Checked}
 use Rattle.cell.specs.Depth.{distance, depthOf}
 use Rattle.cell.specs.Ranges.{cardOk, soilOk, soilOf, rowOk, noticeOk, fieldsOk, noticeOf, lifeOf, nextOf, queueOf}
 use Rattle.cell.specs.RangeLaws.{card-in, soil-in, fields-in}
-use Rattle.cell.specs.Refusals.{refusalNumber, firstFailing, numberOf, isOld, isGap, isUnusable, isInactive, sounded, fieldChecks, unless, fieldsVerdict, verdictOf}
-use Rattle.cell.specs.Step.{amountsBy, judged, answerOf}
+use Rattle.cell.specs.Refusals.{refusalNumber, firstFailing, numberOf, isOld, isGap, isUnusable, isInactive, depthAt, sounded, fieldChecks, unless, fieldsVerdict, verdictFrom, verdictOf}
+use Rattle.cell.specs.Step.{amountsBy, sumsTake, judged, finalOf, sumChecks, answerOf}
 use Rattle.cell.specs.RuleLaws.{depth-le}
 use Rattle.cell.specs.Still.{readingOf}
 use Rattle.cell.specs.StillLaws.{fields-as}
@@ -39,7 +39,7 @@ use Rattle.cell.specs.StillLaws.{fields-as}
 pub record Passed (card : Card) (soil : List ℤ) (row : List ℕ) (e : Entry) (d : Depth) : Type 0 where
   pub card-ok : cardOk card ≡ true
   pub soil-ok : soilOk soil ≡ true
-  pub row-ok : rowOk (card .delays) row ≡ true
+  pub row-ok : rowOk card row ≡ true
   pub not-old : isOld (lifeOf row) (nextOf row) (noticeOf e) ≡ false
   pub not-gap : isGap (lifeOf row) (nextOf row) (noticeOf e) ≡ false
   pub fields-fine : fieldsVerdict (getD soil 0 (pos 0)) e ≡ Fine d
@@ -50,7 +50,7 @@ unless-fine true why v d e = (refl, e)
 unless-fine false why v d e = let z : _≡_ {A = ℕ} 0 1 = cc in absurd (omega arith)
 
 pub passed : (card : Card) (soil : List ℤ) (row : List ℕ) (e : Entry) (d : Depth) → verdictOf card soil row e ≡ Fine d → Passed card soil row e d
-unfolding verdictOf
+unfolding verdictOf verdictFrom
 passed card soil row e d f =
     let p1 = unless-fine _ _ _ d f in
     let p2 = unless-fine _ _ _ d (p1 .1) in
@@ -61,12 +61,33 @@ passed card soil row e d f =
 
 -- and where all are passed, the verdict is that depth
 pub verdict-fine : (card : Card) (soil : List ℤ) (row : List ℕ) (e : Entry) (d : Depth) → Passed card soil row e d → verdictOf card soil row e ≡ Fine d
-unfolding verdictOf unless
+unfolding verdictOf verdictFrom unless
 verdict-fine card soil row e d p = rw (p .card-ok, p .soil-ok, p .row-ok, p .not-old, p .not-gap) (p .fields-fine)
+
+-- [6] all checks: those up to 10, and then 15
+module _ (card : Card) (soil : List ℤ) (row : List ℕ) (e : Entry) (d : Depth) where
+  pub final-passed : finalOf card soil row e ≡ Fine d → (verdictOf card soil row e ≡ Fine d) × (sumsTake card (soilOf soil) e d row ≡ true)
+  unfolding finalOf judged
+  final-passed f = go (verdictOf card soil row e) refl
+    where
+      go : (v : Verdict) → verdictOf card soil row e ≡ v → (verdictOf card soil row e ≡ Fine d) × (sumsTake card (soilOf soil) e d row ≡ true)
+      go (Bad why) g =
+          let s : Bad why ≡ Fine d = rw g at f in
+          let z : _≡_ {A = ℕ} 0 1 = cc in
+          absurd (omega arith)
+      go (Fine b) g =
+          let s : unless (sumsTake card (soilOf soil) e b row) FullSums (Fine b) ≡ Fine d = rw g at f in
+          let u = unless-fine _ _ _ d s in
+          let k : b ≡ d = cc in
+          (rw k at g, rw k at (u .0))
+
+  pub final-fine : Passed card soil row e d → sumsTake card (soilOf soil) e d row ≡ true → finalOf card soil row e ≡ Fine d
+  unfolding finalOf judged unless
+  final-fine p taken = rw (verdict-fine card soil row e d p, taken)
 
 -- check 1 comes first
 pub verdict-card : (card : Card) (soil : List ℤ) (row : List ℕ) (e : Entry) → cardOk card ≡ false → verdictOf card soil row e ≡ Bad BadCard
-unfolding verdictOf unless
+unfolding verdictOf verdictFrom unless
 verdict-card card soil row e f = rw f
 
 -- a head that passes lies within 20,000,000,000 of a top in range
@@ -168,27 +189,8 @@ unfolding fieldsVerdict
 fields-number top (Entry.Reading r) = simp (unless-number, sounded-number)
 fields-number top (Entry.Void n) = unless-number (noticeOk n) BadReading _
 
-module _ (card : Card) (soil : List ℤ) (row : List ℕ) (e : Entry) where
-  -- 2 and 3 are the site's
-  abbrev pub rowChecks : List (ℕ × Bool)
-  rowChecks =
-      (1, cardOk card) ∷ (4, soilOk soil) ∷ (5, rowOk (card .delays) row)
-      ∷ (6, not (isOld (lifeOf row) (nextOf row) (noticeOf e))) ∷ (7, not (isGap (lifeOf row) (nextOf row) (noticeOf e))) ∷ fieldChecks e
-
-  verdict-number : verdictNumber (verdictOf card soil row e) ≡ firstFailing rowChecks
-  unfolding verdictOf
-  verdict-number = simp (unless-number, fields-number)
-
-  pub row-number : numberOf (answerOf card soil row e) ≡ firstFailing rowChecks
-  unfolding answerOf judged
-  row-number = go (verdictOf card soil row e) ∙ verdict-number
-    where
-      go : (v : Verdict) → numberOf (judged v (λ d. Accepted (amountsBy card (soilOf soil) e d (queueOf (card .delays) row))) (λ why. Refused why)) ≡ verdictNumber v
-      go (Fine d) = refl
-      go (Bad why) = refl
-
--- ---- a refusal's number is in 1..10
-pub refusal-in : (why : Refusal) → (1 ≤ refusalNumber why) × (refusalNumber why ≤ 10)
+-- ---- a refusal's number is in 1..15
+pub refusal-in : (why : Refusal) → (1 ≤ refusalNumber why) × (refusalNumber why ≤ 15)
 refusal-in BadCard = omega arith
 refusal-in BadLengths = omega arith
 refusal-in BadCell = omega arith
@@ -199,7 +201,76 @@ refusal-in Gap = omega arith
 refusal-in BadReading = omega arith
 refusal-in UnusableHead = omega arith
 refusal-in InactiveHead = omega arith
+refusal-in FullSums = omega arith
 
-pub number-most : (answer : Answer) → numberOf answer ≤ 10
+-- a check that fails is the first that does, whatever comes after it
+first-stays : (checks others : List (ℕ × Bool)) → 1 ≤ firstFailing checks → firstFailing (checks ++ others) ≡ firstFailing checks
+first-stays [] others h = absurd (omega arith)
+first-stays (check ∷ more) others h = go (check .1) refl (first-stays more others)
+  where
+    go : (t : Bool) → check .1 ≡ t → (1 ≤ firstFailing more → firstFailing (more ++ others) ≡ firstFailing more)
+        → cond (check .1) (firstFailing (more ++ others)) (check .0) ≡ cond (check .1) (firstFailing more) (check .0)
+    go true p ih = rw p (ih (rw p at h))
+    go false p ih = rw p
+
+-- where 8 to 10 are passed, the depth that 15 is asked at is the verdict's
+sounded-at : (top : ℤ) (h : Head) (d : Depth) → sounded top h ≡ Fine d → (isUnusable h ≡ false) × (isInactive h ≡ false) × (depthAt top h ≡ d)
+unfolding sounded depthAt
+sounded-at top (Level x) d e = (refl, refl, cc)
+sounded-at top Dry d e = (refl, refl, cc)
+sounded-at top Inactive d e = let z : _≡_ {A = ℕ} 0 1 = cc in absurd (omega arith)
+sounded-at top Unusable d e = let z : _≡_ {A = ℕ} 0 1 = cc in absurd (omega arith)
+
+module _ (card : Card) (soil : List ℤ) (row : List ℕ) where
+  -- of a void 15 is not asked
+  void-takes : (n : Notice) (d : Depth) → _≡_ {A = ℕ} 0 (cond (sumsTake card (soilOf soil) (Entry.Void n) d row) 0 15)
+  unfolding sumsTake
+  void-takes n d = refl
+
+  after-fields : (e : Entry) (d : Depth) → fieldsVerdict (getD soil 0 (pos 0)) e ≡ Fine d
+      → firstFailing (fieldChecks e ++ sumChecks card soil row e) ≡ cond (sumsTake card (soilOf soil) e d row) 0 15
+  unfolding fieldsVerdict
+  after-fields (Entry.Reading r) d f =
+      let u = unless-fine (fieldsOk r) BadReading _ d f in
+      let t = sounded-at (getD soil 0 (pos 0)) (classOf (r .head)) d (u .1) in
+      rw (u .0, t .0, t .1, t .2)
+  after-fields (Entry.Void n) d f = let u = unless-fine (noticeOk n) BadReading _ d f in rw (u .0) (void-takes n d)
+
+module _ (card : Card) (soil : List ℤ) (row : List ℕ) (e : Entry) where
+  -- 2 and 3 are the site's
+  abbrev firstChecks : List (ℕ × Bool)
+  firstChecks =
+      (1, cardOk card) ∷ (4, soilOk soil) ∷ (5, rowOk card row)
+      ∷ (6, not (isOld (lifeOf row) (nextOf row) (noticeOf e))) ∷ (7, not (isGap (lifeOf row) (nextOf row) (noticeOf e))) ∷ fieldChecks e
+
+  abbrev pub rowChecks : List (ℕ × Bool)
+  rowChecks = firstChecks ++ sumChecks card soil row e
+
+  verdict-number : verdictNumber (verdictOf card soil row e) ≡ firstFailing firstChecks
+  unfolding verdictOf verdictFrom
+  verdict-number = simp (unless-number, fields-number)
+
+  final-number : verdictNumber (finalOf card soil row e) ≡ firstFailing rowChecks
+  unfolding finalOf judged
+  final-number = go (verdictOf card soil row e) refl
+    where
+      go : (v : Verdict) → verdictOf card soil row e ≡ v
+          → verdictNumber (judged v (λ d. unless (sumsTake card (soilOf soil) e d row) FullSums (Fine d)) (λ why. Bad why)) ≡ firstFailing rowChecks
+      go (Fine d) f =
+          let p = passed card soil row e d f in
+          rw (p .card-ok, p .soil-ok, p .row-ok, p .not-old, p .not-gap) (unless-number (sumsTake card (soilOf soil) e d row) FullSums (Fine d) ∙ sym (after-fields card soil row e d (p .fields-fine)))
+      go (Bad why) f =
+          let n : refusalNumber why ≡ firstFailing firstChecks = sym (ap verdictNumber f) ∙ verdict-number in
+          n ∙ sym (first-stays firstChecks (sumChecks card soil row e) (omega (arith, n, refusal-in why .0)))
+
+  pub row-number : numberOf (answerOf card soil row e) ≡ firstFailing rowChecks
+  unfolding answerOf judged
+  row-number = go (finalOf card soil row e) ∙ final-number
+    where
+      go : (v : Verdict) → numberOf (judged v (λ d. Accepted (amountsBy card (soilOf soil) e d (queueOf (card .delays) row))) (λ why. Refused why)) ≡ verdictNumber v
+      go (Fine d) = refl
+      go (Bad why) = refl
+
+pub number-most : (answer : Answer) → numberOf answer ≤ 15
 number-most (Accepted a) = omega arith
 number-most (Refused why) = refusal-in why .1

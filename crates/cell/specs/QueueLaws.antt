@@ -116,6 +116,12 @@ unfolding joined
 total-joined zero f q h z = omega (arith, z refl)
 total-joined (suc k) f q h z = added-total q k f h
 
+-- a deposit adds at most what it brings
+pub joined-le : (k f : ℕ) (q : List ℕ) → k ≤ length q → total (joined k f q) ≤ total q + f
+unfolding joined
+joined-le zero f q h = omega arith
+joined-le (suc k) f q h = omega (arith, added-total q k f h)
+
 -- where nothing joins the slots stay
 pub joined-none : (k : ℕ) (q : List ℕ) → joined k 0 q ≡ q
 unfolding joined

@@ -2,19 +2,20 @@
 use mathlib.Core.Path.{_≡_, refl}
 use mathlib.Core.Bool.{true, false, _&&_, and-false, and-eq-true-iff}
 use mathlib.Core.List.{List, [], _∷_}
-use Prim.Native.Nat.{ℕ, zero, suc, _≤_, _<_, suc-le-suc, zero-le, min}
+use Prim.Native.Nat.{ℕ, zero, suc, _+_, _-_, _≤_, _<_, suc-le-suc, zero-le, min}
 use borrow.Author.Tests.{leb-true, ltb-true, eqb-true, le-leb, lt-leb, eq-eqb}
 use lib.Dec.{leb, ltb, eqb}
 use lib.IntN.{ℤ, pos, negsuc, natAbs}
 use lib.Signed.{leZ}
 use lib.ListN.{length, getD, take, drop, replicate, length-replicate}
-use lib.Seq.{take-all, length-take-le, getD-take}
+use lib.Seq.{take-all, take-nil, length-take-le, getD-take}
 use native.Mathlib.Decide.{decLe}
 use native.Mathlib.Omega.{arith}
 use Rattle.cell.specs.declared.Card.{Card}
 use Rattle.cell.specs.declared.Notice.{Notice}
 use Rattle.cell.specs.declared.Reading.{Reading}
-use Rattle.cell.specs.Ranges.{countsOk, noneOf, risingFrom, shareOk, cardOk, depthsOk, within, soilOk, soilOf, lifeOf, nextOf, slotsOf, queueOf, slotsOk, rowOk, noticeOk, fieldsOk}
+use Rattle.cell.specs.Ranges.{countsOk, noneOf, risingFrom, shareOk, cardOk, depthsOk, within, soilOk, soilOf, lifeOf, nextOf, slotsOf, queueOf, slotsOk, rowWidth, formOk, rowOk, noticeOk, fieldsOk}
+use Rattle.cell.specs.Sums.{frontWidth, runoffAt, drainAt, sumLimit, sumOf}
 use Rattle.cell.specs.Conj.{told}
 use Rattle.cell.specs.QueueLaws.{SlotsIn, slots-in, slots-ok, first-zeros}
 
@@ -146,39 +147,70 @@ soil-in s e =
       cn = d .most;
     }
 
--- ---- the row
-pub record RowIn (m : ℕ) (row : List ℕ) : Type 0 where
-  pub long : length row ≡ 32
+-- ---- the row, in any of its forms
+pub record FormIn (m : ℕ) (row : List ℕ) : Type 0 where
+  pub least : frontWidth ≤ length row
   pub life : lifeOf row ≤ 65535
   pub next : nextOf row ≤ 1000000
   pub slots : SlotsIn m (slotsOf row)
+  pub runoff : sumOf runoffAt row ≤ sumLimit
+  pub drain : sumOf drainAt row ≤ sumLimit
 
-pub row-in : (m : ℕ) (row : List ℕ) → rowOk m row ≡ true → RowIn m row
+pub form-in : (m : ℕ) (row : List ℕ) → formOk m row ≡ true → FormIn m row
+unfolding formOk
+form-in m row e =
+    let p =
+    told (leb frontWidth (length row))
+    (leb (lifeOf row) 65535 ∷ leb (nextOf row) 1000000 ∷ slotsOk m (slotsOf row) ∷ leb (sumOf runoffAt row) sumLimit ∷ leb (sumOf drainAt row) sumLimit ∷ []) e in
+    record { least = leb-true _ _ (p 0); life = leb-true _ _ (p 1); next = leb-true _ _ (p 2); slots = slots-in m (slotsOf row) (p 3); runoff = leb-true _ _ (p 4); drain = leb-true _ _ (p 5) }
+
+pub form-ok : (m : ℕ) (row : List ℕ) → FormIn m row → formOk m row ≡ true
+unfolding formOk
+form-ok m row h =
+    simp (le-leb _ _ (h .least), le-leb _ _ (h .life), le-leb _ _ (h .next), slots-ok m (slotsOf row) (h .slots), le-leb _ _ (h .runoff), le-leb _ _ (h .drain))
+
+-- and of as many numbers as the card says
+pub record RowIn (card : Card) (row : List ℕ) : Type 0 where
+  pub long : length row ≡ rowWidth card
+  pub form : FormIn (card .delays) row
+
+pub row-in : (card : Card) (row : List ℕ) → rowOk card row ≡ true → RowIn card row
 unfolding rowOk
-row-in m row e =
-    let p = told (eqb (length row) 32) (leb (lifeOf row) 65535 ∷ leb (nextOf row) 1000000 ∷ slotsOk m (slotsOf row) ∷ []) e in
-    record { long = eqb-true _ _ (p 0); life = leb-true _ _ (p 1); next = leb-true _ _ (p 2); slots = slots-in m (slotsOf row) (p 3) }
+row-in card row e =
+    let p = and-eq-true-iff (eqb (length row) (rowWidth card)) (formOk (card .delays) row) .0 e in
+    record { long = eqb-true _ _ (p .0); form = form-in (card .delays) row (p .1) }
 
-pub row-ok : (m : ℕ) (row : List ℕ) → RowIn m row → rowOk m row ≡ true
+pub row-ok : (card : Card) (row : List ℕ) → RowIn card row → rowOk card row ≡ true
 unfolding rowOk
-row-ok m row h = simp (eq-eqb _ _ (h .long), le-leb _ _ (h .life), le-leb _ _ (h .next), slots-ok m (slotsOf row) (h .slots))
+row-ok card row h = simp (eq-eqb _ _ (h .long), form-ok (card .delays) row (h .form))
 
--- ---- a cleared row: life 0, next count 0, and a cleared queue
-pub cleared-life : lifeOf (replicate 32 0) ≡ 0
+-- ---- a cleared row of w numbers: life 0, next count 0, a cleared queue, and nothing in its sums
+getD-zeros : (w i : ℕ) → _≡_ {A = ℕ} (getD (replicate w 0) i 0) 0
+getD-zeros zero i = refl
+getD-zeros (suc w) zero = refl
+getD-zeros (suc w) (suc i) = getD-zeros w i
+
+pub cleared-life : (w : ℕ) → lifeOf (replicate w 0) ≡ 0
 unfolding lifeOf
-cleared-life = refl
+cleared-life w = getD-zeros w 0
 
-pub cleared-next : nextOf (replicate 32 0) ≡ 0
+pub cleared-next : (w : ℕ) → nextOf (replicate w 0) ≡ 0
 unfolding nextOf
-cleared-next = refl
+cleared-next w = getD-zeros w 1
 
-pub cleared-queue : (m : ℕ) → queueOf m (replicate 32 0) ≡ replicate (min m 30) 0
+pub cleared-sum : (w at : ℕ) → sumOf at (replicate w 0) ≡ 0
+unfolding sumOf
+cleared-sum w at = rw (getD-zeros w at, getD-zeros w (at + 1))
+
+pub cleared-queue : (w m : ℕ) → queueOf m (replicate w 0) ≡ replicate (min m (w - 2)) 0
 unfolding queueOf
-cleared-queue m = go (decLe m 30)
+cleared-queue zero m = let e : min m (0 - 2) ≡ 0 = omega arith in rw e (take-nil m)
+cleared-queue (suc zero) m = let e : min m (1 - 2) ≡ 0 = omega arith in rw e (take-nil m)
+cleared-queue (suc (suc w)) m = go (decLe m w)
   where
-    go : Dec (m ≤ 30) → _≡_ {A = List ℕ} (take m (replicate 30 0)) (replicate (min m 30) 0)
-    go (yes h) = let e : min m 30 ≡ m = omega arith in rw e (first-zeros m 30 h)
-    go (no h) = let e : min m 30 ≡ 30 = omega arith in rw e (take-all m (replicate 30 0) (omega (arith, length-replicate {A = ℕ} 30 0)))
+    go : Dec (m ≤ w) → _≡_ {A = List ℕ} (take m (replicate w 0)) (replicate (min m (suc (suc w) - 2)) 0)
+    go (yes h) = let e : min m (suc (suc w) - 2) ≡ m = omega arith in rw e (first-zeros m w h)
+    go (no h) = let e : min m (suc (suc w) - 2) ≡ w = omega arith in rw e (take-all m (replicate w 0) (omega (arith, length-replicate {A = ℕ} w 0)))
 
 -- ---- the reading
 pub record FieldsIn (r : Reading) : Type 0 where

@@ -11,6 +11,7 @@ use Rattle.cell.specs.declared.Entry.{Entry}
 use Rattle.cell.specs.declared.Notice.{Notice}
 use Rattle.cell.specs.declared.Reading.{Reading}
 use Rattle.cell.specs.declared.ranges.Soil.{Soil}
+use Rattle.cell.specs.Sums.{frontWidth, runoffAt, drainAt, sumLimit, sumOf}
 
 -- ---- the card
 -- cells 1..256; delays M 0..30
@@ -62,7 +63,11 @@ soilOf s =
       cn = natAbs (getD s 4 (pos 0));
     }
 
--- ---- the stored row, 32 numbers: life 0..65,535; next count 0..1,000,000; slots 1..30
+-- ---- the stored row: life 0..65,535; next count 0..1,000,000; slots 1..30; [6] runoff and drainage since collection, each at most 10^18
+-- how many numbers that is
+abbrev pub rowWidth : Card → ℕ
+rowWidth card = 36
+
 unfoldable pub lifeOf : List ℕ → ℕ
 lifeOf row = getD row 0 0
 
@@ -81,8 +86,18 @@ unfoldable pub slotsOk : ℕ → List ℕ → Bool
 slotsOk m [] = true
 slotsOk m (s ∷ ss) = leb s (2000000 * m) && slotsOk (m - 1) ss
 
-unfoldable pub rowOk : ℕ → List ℕ → Bool
-rowOk m row = eqb (length row) 32 && leb (lifeOf row) 65535 && leb (nextOf row) 1000000 && slotsOk m (slotsOf row)
+-- the numbers of a row in any of its forms, where a sum that it does not have counts as 0
+unfoldable pub formOk : ℕ → List ℕ → Bool
+formOk m row =
+    leb frontWidth (length row)
+    && leb (lifeOf row) 65535
+    && leb (nextOf row) 1000000
+    && slotsOk m (slotsOf row)
+    && leb (sumOf runoffAt row) sumLimit
+    && leb (sumOf drainAt row) sumLimit
+
+unfoldable pub rowOk : Card → List ℕ → Bool
+rowOk card row = eqb (length row) (rowWidth card) && formOk (card .delays) row
 
 -- ---- [3] an entry: a reading, or a void. Either names a cell, a life and a count, which are all that a notice holds
 abbrev pub noticed : Reading → Notice

@@ -10,11 +10,12 @@ use Rattle.head.specs.declared.Head.the-variants.{Level, Dry, Inactive, Unusabl
 use Rattle.head.specs.Class.{classOf}
 use Rattle.head.specs.Level.{levelUm}
 use Rattle.cell.specs.declared.Card.{Card}
+use Rattle.cell.specs.declared.Depth.{Depth}
 use Rattle.cell.specs.declared.Entry.{Entry}
 use Rattle.cell.specs.declared.Notice.{Notice}
 use Rattle.cell.specs.declared.Amounts.{Amounts}
 use Rattle.cell.specs.declared.Refusal.{Refusal}
-use Rattle.cell.specs.declared.Refusal.the-variants.{BadCard, BadLengths, BadCell, BadSoil, BadRow, Old, Gap, BadReading, UnusableHead, InactiveHead}
+use Rattle.cell.specs.declared.Refusal.the-variants.{BadCard, BadLengths, BadCell, BadSoil, BadRow, Old, Gap, BadReading, UnusableHead, InactiveHead, FullSums}
 use Rattle.cell.specs.declared.Answer.{Answer}
 use Rattle.cell.specs.declared.Answer.the-variants.{Accepted, Refused}
 use Rattle.cell.specs.declared.checks.Verdict.{Verdict}
@@ -23,7 +24,7 @@ use Rattle.cell.specs.Water.{water, net}
 use Rattle.cell.specs.Ranges.{cardOk, soilOk, rowOk, noticeOk, fieldsOk, noticeOf, lifeOf, nextOf}
 use Rattle.cell.specs.Depth.{depthOf, dryDepth}
 
--- ---- the numbers: 1 to 10 of a step, some of other calls too
+-- ---- the numbers: 1 to 10 and 15 of a step, some of other calls too
 abbrev pub refusalNumber : Refusal → ℕ
 refusalNumber BadCard = 1
 refusalNumber BadLengths = 2
@@ -35,6 +36,7 @@ refusalNumber Gap = 7
 refusalNumber BadReading = 8
 refusalNumber UnusableHead = 9
 refusalNumber InactiveHead = 10
+refusalNumber FullSums = 15
 
 -- 11 is an answer that a sheet does not take; 12 a malformed text, or nothing that can be written
 abbrev pub notAddable : ℕ
@@ -42,6 +44,10 @@ notAddable = 11
 
 abbrev pub malformed : ℕ
 malformed = 12
+
+-- [6] 16 is a move back while a sum is not 0
+abbrev pub uncollected : ℕ
+uncollected = 16
 
 -- the checks of a call in the order in which it meets them, each with its number and whether it is passed: the number of the first that is not, 0 where all are
 abbrev pub firstFailing : List (ℕ × Bool) → ℕ
@@ -98,7 +104,14 @@ isInactive Inactive = true
 isInactive Dry = false
 isInactive (Level x) = false
 
--- what passes both is a depth
+-- where the table stands by a head; only a level and a dry one are asked
+unfoldable pub depthAt : ℤ → Head → Depth
+depthAt top (Level x) = depthOf top (levelUm x)
+depthAt top Dry = dryDepth
+depthAt top Inactive = dryDepth
+depthAt top Unusable = dryDepth
+
+-- what passes 9 and 10 is a depth
 unfoldable pub sounded : ℤ → Head → Verdict
 sounded top Unusable = Bad UnusableHead
 sounded top Inactive = Bad InactiveHead
@@ -120,12 +133,15 @@ unfoldable pub fieldsVerdict : ℤ → Entry → Verdict
 fieldsVerdict top (Entry.Reading r) = unless (fieldsOk r) BadReading (sounded top (classOf (r .head)))
 fieldsVerdict top (Entry.Void n) = unless (noticeOk n) BadReading (Fine dryDepth)
 
--- the first check that fails, in their order; 2 and 3 are the site's
-unfoldable pub verdictOf : Card → List ℤ → List ℕ → Entry → Verdict
-verdictOf card soil row e =
+-- the first check up to 10 that fails, in their order; 2 and 3 are the site's. Of the row it asks whether it is in range, its life and its next count
+unfoldable pub verdictFrom : Card → List ℤ → Bool → ℕ → ℕ → Entry → Verdict
+verdictFrom card soil fits life next e =
     unless (cardOk card) BadCard
     (unless (soilOk soil) BadSoil
-    (unless (rowOk (card .delays) row) BadRow
-    (unless (not (isOld (lifeOf row) (nextOf row) (noticeOf e))) Old
-    (unless (not (isGap (lifeOf row) (nextOf row) (noticeOf e))) Gap
+    (unless fits BadRow
+    (unless (not (isOld life next (noticeOf e))) Old
+    (unless (not (isGap life next (noticeOf e))) Gap
     (fieldsVerdict (getD soil 0 (pos 0)) e)))))
+
+unfoldable pub verdictOf : Card → List ℤ → List ℕ → Entry → Verdict
+verdictOf card soil row e = verdictFrom card soil (rowOk card row) (lifeOf row) (nextOf row) e

@@ -1,9 +1,12 @@
 -- One accepted step of one plot, in document 01's order and with its step numbers; and what a call of the one-row step gives. Definitions only.
 use mathlib.Core.Path.{_≡_}
+use mathlib.Core.Bool.{Bool, true, _&&_}
 use mathlib.Core.List.{List, [], _∷_, _++_}
 use Prim.Native.Nat.{ℕ, _+_, _-_}
+use lib.Dec.{leb}
 use lib.IntN.{ℤ, pos}
-use lib.ListN.{length, drop, replicate}
+use lib.ListN.{length, getD, drop, replicate}
+use Rattle.head.specs.Class.{classOf}
 use Rattle.cell.specs.declared.Amounts.{Amounts}
 use Rattle.cell.specs.declared.Answer.{Answer}
 use Rattle.cell.specs.declared.Answer.the-variants.{Accepted, Refused}
@@ -12,12 +15,14 @@ use Rattle.cell.specs.declared.Depth.{Depth}
 use Rattle.cell.specs.declared.Entry.{Entry}
 use Rattle.cell.specs.declared.Reading.{Reading}
 use Rattle.cell.specs.declared.Refusal.{Refusal}
+use Rattle.cell.specs.declared.Refusal.the-variants.{FullSums}
 use Rattle.cell.specs.declared.ranges.Soil.{Soil}
 use Rattle.cell.specs.declared.checks.Verdict.{Verdict}
 use Rattle.cell.specs.declared.checks.Verdict.the-variants.{Fine, Bad}
 use Rattle.cell.specs.Water.{water, net}
 use Rattle.cell.specs.Ranges.{soilOf, queueOf, noticeOf}
-use Rattle.cell.specs.Refusals.{refusalNumber, numberOf, nothing, amountsOf, verdictOf}
+use Rattle.cell.specs.Refusals.{refusalNumber, numberOf, nothing, amountsOf, depthAt, unless, verdictOf}
+use Rattle.cell.specs.Sums.{runoffAt, drainAt, sumLimit, sumOf, added}
 use Rattle.cell.specs.Queue.{slot, total, shifted, taken, spared, joined}
 use Rattle.cell.specs.Rules.{curveOf, stormOf, delayOf, runoffOf, etvadOf, lackOf, etsatOf, drainOf, storedOf, directOf, rechargeOf}
 
@@ -129,9 +134,27 @@ module _ (card : Card) (soil : Soil) where
   queueBy (Entry.Reading r) d q = queueAfter card soil r d q
   queueBy (Entry.Void n) d q = shifted q
 
-  -- the row as the step leaves it: the entry's life, its count + 1, the queue, and what stood above the queue
+  -- the row with its queue moved on: the entry's life, its count + 1, the queue, and what stood above the queue
+  unfoldable pub rowMoved : Entry → Depth → List ℕ → List ℕ
+  rowMoved e d row = noticeOf e .life ∷ (noticeOf e .count + 1) ∷ (queueBy e d (queueOf (card .delays) row) ++ drop (card .delays) (drop 2 row))
+
+  -- [6] what the step adds to the sums: its runoff and its drain; a void adds nothing
+  unfoldable pub runoffBy : Entry → Depth → ℕ
+  runoffBy (Entry.Reading r) d = runoff card soil r d
+  runoffBy (Entry.Void n) d = 0
+
+  unfoldable pub drainBy : Entry → Depth → ℕ
+  drainBy (Entry.Reading r) d = drain card soil r d
+  drainBy (Entry.Void n) d = 0
+
+  -- the row as the step leaves it
   unfoldable pub rowAfter : Entry → Depth → List ℕ → List ℕ
-  rowAfter e d row = noticeOf e .life ∷ (noticeOf e .count + 1) ∷ (queueBy e d (queueOf (card .delays) row) ++ drop (card .delays) (drop 2 row))
+  rowAfter e d row = added drainAt (drainBy e d) (added runoffAt (runoffBy e d) (rowMoved e d row))
+
+  -- [6] 15. neither sum would pass 10^18; of a void, which adds nothing, it is not asked
+  unfoldable pub sumsTake : Entry → Depth → List ℕ → Bool
+  sumsTake (Entry.Reading r) d row = leb (sumOf runoffAt row + runoff card soil r d) sumLimit && leb (sumOf drainAt row + drain card soil r d) sumLimit
+  sumsTake (Entry.Void n) d row = true
 
   -- what an account asks of a step besides its amounts: the delay of 4, and what 7 draws from each slot; a void [3] stores nothing and draws 0 from each
   unfoldable pub delayBy : Entry → Depth → ℕ
@@ -149,24 +172,33 @@ unfoldable pub judged : {A : Type 0} → Verdict → (Depth → A) → (Refusal 
 judged (Fine d) passed refused = passed d
 judged (Bad why) passed refused = refused why
 
+-- [6] the verdict of all checks: those up to 10, then 15
+unfoldable pub finalOf : Card → List ℤ → List ℕ → Entry → Verdict
+finalOf card soil row e = judged (verdictOf card soil row e) (λ d. unless (sumsTake card (soilOf soil) e d row) FullSums (Fine d)) (λ why. Bad why)
+
+-- 15 with its number and whether it is passed, where the table stands at the depth that the reading's head gives
+abbrev pub sumChecks : Card → List ℤ → List ℕ → Entry → List (ℕ × Bool)
+sumChecks card soil row (Entry.Reading r) = (15, sumsTake card (soilOf soil) (Entry.Reading r) (depthAt (getD soil 0 (pos 0)) (classOf (r .head))) row) ∷ []
+sumChecks card soil row (Entry.Void n) = []
+
 -- accepted with the ten amounts, or refused
 unfoldable pub answerOf : Card → List ℤ → List ℕ → Entry → Answer
-answerOf card soil row e = judged (verdictOf card soil row e) (λ d. Accepted (amountsBy card (soilOf soil) e d (queueOf (card .delays) row))) (λ why. Refused why)
+answerOf card soil row e = judged (finalOf card soil row e) (λ d. Accepted (amountsBy card (soilOf soil) e d (queueOf (card .delays) row))) (λ why. Refused why)
 
 -- the row at exit: refused, as it came
 unfoldable pub newRow : Card → List ℤ → List ℕ → Entry → List ℕ
-newRow card soil row e = judged (verdictOf card soil row e) (λ d. rowAfter card (soilOf soil) e d row) (λ why. row)
+newRow card soil row e = judged (finalOf card soil row e) (λ d. rowAfter card (soilOf soil) e d row) (λ why. row)
 
 -- the delay and the draws of a call
 unfoldable pub stepDelay : Card → List ℤ → List ℕ → Entry → ℕ
-stepDelay card soil row e = judged (verdictOf card soil row e) (λ d. delayBy card (soilOf soil) e d) (λ why. 0)
+stepDelay card soil row e = judged (finalOf card soil row e) (λ d. delayBy card (soilOf soil) e d) (λ why. 0)
 
 unfoldable pub stepDraws : Card → List ℤ → List ℕ → Entry → List ℕ
-stepDraws card soil row e = judged (verdictOf card soil row e) (λ d. drawsBy card (soilOf soil) e d (queueOf (card .delays) row)) (λ why. [])
+stepDraws card soil row e = judged (finalOf card soil row e) (λ d. drawsBy card (soilOf soil) e d (queueOf (card .delays) row)) (λ why. [])
 
 -- the one-row step: its answer, with its number and amounts, and the row at exit
 pub record StepGives (card : Card) (soil : List ℤ) (row : List ℕ) (e : Entry) (answer : Answer) (after : List ℕ) : Type 0 where
   pub answer-is : answer ≡ answerOf card soil row e
-  pub number-is : numberOf answer ≡ judged (verdictOf card soil row e) (λ d. 0) refusalNumber
-  pub amounts-are : amountsOf answer ≡ judged (verdictOf card soil row e) (λ d. amountsBy card (soilOf soil) e d (queueOf (card .delays) row)) (λ why. nothing)
+  pub number-is : numberOf answer ≡ judged (finalOf card soil row e) (λ d. 0) refusalNumber
+  pub amounts-are : amountsOf answer ≡ judged (finalOf card soil row e) (λ d. amountsBy card (soilOf soil) e d (queueOf (card .delays) row)) (λ why. nothing)
   pub row-is : after ≡ newRow card soil row e

@@ -3,8 +3,15 @@ ghost use mathlib.Core.Path.{_≡_};
 ghost use Prim.Native.Nat.{_+_, _^_, _≤_, _<_};
 ghost use lib.ListN.{length};
 ghost use Rattle.cell.specs.Queue.{slot, total, shifted, taken, spared, joined};
+ghost use Rattle.cell.specs.Parts.{Pulls, Putting, Puts};
 use crate::Water;
 use crate::ranges::less;
+
+// What leaves the queue in a step: slot 1 by the shift, and what the plants draw.
+pub struct Pulled {
+    pub release: Water,
+    pub drawn: Water,
+}
 
 pub fn wide(x: u32) -> u64
     ensures { λ r. ⌜ r ≡ x ⌝ }
@@ -13,7 +20,7 @@ pub fn wide(x: u32) -> u64
 }
 
 // Slot k + 1 becomes slot k and the last becomes 0; what was in slot 1 is the result.
-pub fn shift(slots: &mut [u32]) -> Water
+fn shift(slots: &mut [u32]) -> Water
     ensures { λ r. ⌜ (r .0 ≡ slot (now (slots .entry)) 1) × (now (slots .exit) ≡ shifted (now (slots .entry))) ⌝ }
 {
     let n = slots.len();
@@ -32,7 +39,7 @@ pub fn shift(slots: &mut [u32]) -> Water
 }
 
 // Draws a lack from slots 1, 2, .. in that order, each as far as it goes; the result is how much there was.
-pub fn draw(slots: &mut [u32], lack: Water) -> Water
+fn draw(slots: &mut [u32], lack: Water) -> Water
     requires { ⌜ lack .0 ≤ 1000000 ⌝ }
     ensures { λ r. ⌜ (r .0 ≡ total (taken (lack .0) (now (slots .entry)))) × (now (slots .exit) ≡ spared (lack .0) (now (slots .entry))) ⌝ }
 {
@@ -52,7 +59,7 @@ pub fn draw(slots: &mut [u32], lack: Water) -> Water
 }
 
 // f joins slot k; with k = 0 none.
-pub fn join(slots: &mut [u32], k: usize, f: Water)
+fn join(slots: &mut [u32], k: usize, f: Water)
     requires { ⌜ (k ≤ length (now slots)) × (total (now slots) + f .0 < 2 ^ 32) ⌝ }
     ensures { λ _. ⌜ now (slots .exit) ≡ joined k (f .0) (now (slots .entry)) ⌝ }
 {
@@ -63,7 +70,7 @@ pub fn join(slots: &mut [u32], k: usize, f: Water)
 }
 
 // What all slots hold together.
-pub fn waiting(slots: &[u32]) -> Water
+fn waiting(slots: &[u32]) -> Water
     requires { ⌜ total (now slots) < 2 ^ 32 ⌝ }
     ensures { λ r. ⌜ r .0 ≡ total (now (slots .entry)) ⌝ }
 {
@@ -74,4 +81,26 @@ pub fn waiting(slots: &[u32]) -> Water
         i += 1;
     }
     Water(sum)
+}
+
+// 1 and 7: the shift, then the draw.
+pub fn pull(slots: &mut [u32], lack: Water) -> Pulled
+    requires { ⌜ lack .0 ≤ 1000000 ⌝ }
+    ensures { λ p. ⌜ Pulls (lack .0) (now (slots .entry)) p (now (slots .exit)) ⌝ }
+{
+    let release = shift(slots);
+    let drawn = draw(slots, lack);
+    Pulled {
+        release: release,
+        drawn: drawn,
+    }
+}
+
+// 10: the deposit; the result is what the queue then holds.
+pub fn put(slots: &mut [u32], k: usize, f: Water) -> Water
+    requires { ⌜ Putting k (f .0) (now slots) ⌝ }
+    ensures { λ left. ⌜ Puts k (f .0) (now (slots .entry)) (left .0) (now (slots .exit)) ⌝ }
+{
+    join(slots, k, f);
+    waiting(slots)
 }

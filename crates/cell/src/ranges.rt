@@ -1,13 +1,16 @@
 // Numbers and their ranges.
 ghost use mathlib.Core.Path.{_≡_};
-ghost use mathlib.Core.Bool.{true};
+ghost use mathlib.Core.Bool.{true, _&&_};
 ghost use Prim.Native.Nat.{_-_, _*_, _≤_};
 ghost use lib.IntN.{pos, natAbs};
-ghost use lib.ListN.{length};
+ghost use lib.Dec.{leb};
+ghost use lib.ListN.{length, getD};
 ghost use lib.Signed.{leZ};
 ghost use Rattle.cell.specs.Parts.{heldUnder};
-ghost use Rattle.cell.specs.Ranges.{noneOf, risingFrom, depthsOk, within, soilOk, soilOf, slotsOk, rowOk, fieldsOk};
+ghost use Rattle.cell.specs.Ranges.{noneOf, risingFrom, depthsOk, within, soilOk, soilOf, slotsOk, formOk, rowOk, fieldsOk};
+use crate::Card;
 use crate::Reading;
+use crate::sums;
 use head::Height;
 
 // The soil numbers of a cell, each in its range.
@@ -24,6 +27,13 @@ pub fn less(a: u32, b: u32) -> u32
     ensures { λ r. ⌜ r ≡ a - b ⌝ }
 {
     if a < b { 0 } else { a - b }
+}
+
+// The number at a place; 0 past the end.
+pub fn number_at(v: &[u32], i: usize) -> u32
+    ensures { λ r. ⌜ r ≡ getD (now (v .entry)) i 0 ⌝ }
+{
+    if i < v.len() { v[i] } else { 0 }
 }
 
 // Whether all numbers are 0. It looks at each, so that several can be looked at at once.
@@ -135,16 +145,31 @@ fn slots_ok(slots: &[u32], m: u32) -> bool
     used & unused
 }
 
-// A stored row is in range.
-pub fn row_ok(row: &[u32], m: u32) -> bool
-    requires { ⌜ m ≤ 30 ⌝ }
-    ensures { λ r. ⌜ r ≡ rowOk m (now (row .entry)) ⌝ }
+// The numbers of a row in any of its forms are in range, under a number of delays that is.
+pub fn form_ok(row: &[u32], m: u32) -> bool
+    ensures { λ r. ⌜ r ≡ (leb m 30 && formOk m (now (row .entry))) ⌝ }
 {
-    if row.len() != 32 {
+    if 30 < m {
+        return false;
+    }
+    if row.len() < 32 {
         return false;
     }
     let slots = slots_ok(&row[2..32], m);
-    (row[0] <= 65535) & (row[1] <= 1000000) & slots
+    let runoff = sums::sum_of(row, sums::RUNOFF_AT);
+    let drain = sums::sum_of(row, sums::DRAIN_AT);
+    let most = sums::SUM_LIMIT;
+    (row[0] <= 65535) & (row[1] <= 1000000) & slots & (runoff.0 <= most) & (drain.0 <= most)
+}
+
+// A stored row is in range, under a number of delays that is.
+pub fn row_ok(card: Card, row: &[u32]) -> bool
+    ensures { λ r. ⌜ r ≡ (leb (card .delays) 30 && rowOk card (now (row .entry))) ⌝ }
+{
+    if row.len() != 36 {
+        return false;
+    }
+    form_ok(row, card.delays)
 }
 
 // The fields of a reading, but for its cell and its head, are in their ranges.

@@ -7,8 +7,8 @@ use Rattle.cell.specs.declared.Reading.{Reading}
 use Rattle.cell.specs.declared.ranges.Soil.{Soil}
 use Rattle.cell.specs.declared.step.Wetting.{Wetting}
 use Rattle.cell.specs.Water.{water}
-use Rattle.cell.specs.Rules.{curveOf, stormOf, delayOf, runoffOf, etvadOf, lackOf}
-use Rattle.cell.specs.Step.{given, curve, storm, delay, runoff, etvad, lack, sunk}
+use Rattle.cell.specs.Rules.{curveOf, stormOf, delayOf, runoffOf, etvadOf, lackOf, drainOf}
+use Rattle.cell.specs.Step.{given, curve, storm, delay, runoff, etvad, lack, drain, sunk}
 use Rattle.cell.specs.Parts.{wettingOf}
 use borrow.Author.Needs.{needs}
 use Rattle.cell.proofs.step.wet.Statement.{statement}
@@ -16,11 +16,11 @@ use Rattle.cell.proofs.step.wet.Tie as tie
 
 -- the calls' results, put together
 module _ (card : Card) (soil : Soil) (r : Reading) (d : Depth) where
-  whole : {q k o e l : ℕ} → q ≡ stormOf (card .share) (curveOf (soil .cn) (r .amc)) (r .rain) → k ≡ delayOf (card .depths) (card .delays) d
-      → o ≡ runoffOf (r .rain + r .irrig) q k (soil .vadpor) d → e ≡ etvadOf (r .rain + r .irrig) o (r .pet) (r .etmin) (r .irrig) → l ≡ lackOf e (r .etmin) d
-      → _≡_ {A = Wetting} (record { delay = k; runoff = water o; etvad = water e; lack = water l; sunk = water (r .rain + r .irrig - o - e) }) (wettingOf card soil r d)
-  unfolding given curve storm delay runoff etvad lack sunk wettingOf
-  whole hq hk ho he hl = cc
+  whole : {q k o e l s : ℕ} → q ≡ stormOf (card .share) (curveOf (soil .cn) (r .amc)) (r .rain) → k ≡ delayOf (card .depths) (card .delays) d
+      → o ≡ runoffOf (r .rain + r .irrig) q k (soil .vadpor) d → e ≡ etvadOf (r .rain + r .irrig) o (r .pet) (r .etmin) (r .irrig) → l ≡ lackOf e (r .etmin) d → s ≡ drainOf (soil .leak) d
+      → _≡_ {A = Wetting} (record { delay = k; runoff = water o; etvad = water e; lack = water l; drain = water s; sunk = water (r .rain + r .irrig - o - e) }) (wettingOf card soil r d)
+  unfolding given curve storm delay runoff etvad lack drain sunk wettingOf
+  whole hq hk ho he hl hs = cc
 
 cast-storm-on : tie.Need-cast-storm-on
 cast-storm-on c = search needs
@@ -55,17 +55,19 @@ etvad-requires c κs = search needs
 lack-requires : tie.Need-lack-requires
 lack-requires c κs = search needs
 
+drain-requires : tie.Need-drain-requires
+drain-requires c κs = (c .before .before .before .before .before .before .before .before .before .before .before .before .pre .leak, c .before .before .before .before .before .before .before .before .before .before .before .before .pre .depth)
+
 sub-t13 : tie.Need-sub-t13
 sub-t13 c = search needs
 
-sub-t15 : tie.Need-sub-t15
-sub-t15 c = search needs
+sub-t16 : tie.Need-sub-t16
+sub-t16 c = search needs
 
 returns : tie.Need-returns
-returns c =
-    let a = c .before .before .before .before .before .before .before .before .before .before .before .before .before .before .before .args in
-    whole (a .card) (a .soil) (a .r) (a .d) (c .before .before .before .before .before .before .before .before .storm-on .ensures .0) (c .before .before .before .before .before .before .before .delay .ensures .0)
-    (c .before .before .before .before .before .before .runoff .ensures .0) (c .before .before .before .before .etvad .ensures .0) (c .before .before .before .lack .ensures .0)
+returns c = 
+    let a = c .before .before .before .before .before .before .before .before .before .before .before .before .before .before .before .before .args in
+    whole (a .card) (a .soil) (a .r) (a .d) (c .before .before .before .before .before .before .before .before .before .storm-on .ensures .0) (c .before .before .before .before .before .before .before .before .delay .ensures .0) (c .before .before .before .before .before .before .before .runoff .ensures .0) (c .before .before .before .before .before .etvad .ensures .0) (c .before .before .before .before .lack .ensures .0) (c .before .before .before .drain .ensures .0)
 
 pub wet-spec : {M : Type 1} → statement M
 wet-spec =
@@ -82,6 +84,7 @@ wet-spec =
     cast-t13
     etvad-requires
     lack-requires
+    drain-requires
     sub-t13
-    sub-t15
+    sub-t16
     returns)
