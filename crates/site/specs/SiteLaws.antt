@@ -18,21 +18,21 @@ use Rattle.cell.specs.declared.Notice.{Notice}
 use Rattle.cell.specs.declared.Reading.{Reading}
 use Rattle.cell.specs.declared.Refusal.{Refusal}
 use Rattle.cell.specs.declared.Refusal.the-variants.{BadCard, BadLengths, BadCell}
-use Rattle.cell.specs.Ranges.{cardOk, noticeOk, noticed, noticeOf, cellOf}
+use Rattle.cell.specs.Ranges.{cardOk, rowWidth, noticeOk, noticed, noticeOf, cellOf}
 use Rattle.cell.specs.Step.{answerOf, newRow}
 use Rattle.cell.specs.Refusals.{refusalNumber, firstFailing, fieldChecks, numberOf, nothing, amountsOf}
 use Rattle.cell.specs.CheckLaws.{row-number, refusal-in}
 use Rattle.cell.specs.AnswerLaws.{stays, bad-card, length-after}
 use Rattle.site.specs.Rows.{partAt, putAt}
 use Rattle.site.specs.RowsLaws.{put-back, put-same, put-other, put-length, put-outside, room, part-zeros}
-use Rattle.site.specs.Site.{soilWidth, rowWidth, soilFits, rowsFit, cellFits, checksOf, refuse, siteAnswer, rowsBy, siteRows, SiteGives, clearNumber, clearRows, ClearGives}
+use Rattle.site.specs.Site.{soilWidth, soilFits, rowsFit, cellFits, checksOf, refuse, siteAnswer, rowsBy, siteRows, SiteGives, clearNumber, clearRows, ClearGives}
 
 module _ (card : Card) (soil : List ℤ) (rows : List ℕ) (i : Entry) where
   abbrev soilPart : List ℤ
   soilPart = partAt soilWidth (cellOf i) soil
 
   abbrev rowPart : List ℕ
-  rowPart = partAt rowWidth (cellOf i) rows
+  rowPart = partAt (rowWidth card) (cellOf i) rows
 
   -- ---- by the checks 2 and 3, each after check 1
   by-checks : {a b c : Bool} → cardOk card ≡ a → (soilFits card soil && rowsFit card rows) ≡ b → cellFits card i ≡ c
@@ -82,16 +82,16 @@ module _ (card : Card) (soil : List ℤ) (rows : List ℕ) (i : Entry) where
   rows-stay why e = rw e
 
   pub rows-reached : (soilFits card soil && rowsFit card rows) ≡ true → cellFits card i ≡ true
-      → siteRows card soil rows i ≡ putAt rowWidth (cellOf i) (newRow card soilPart rowPart i) rows
+      → siteRows card soil rows i ≡ putAt (rowWidth card) (cellOf i) (newRow card soilPart rowPart i) rows
   unfolding siteRows rowsBy
   rows-reached e f = go (answerOf card soilPart rowPart i) refl
     where
       after : List ℕ
-      after = putAt rowWidth (cellOf i) (newRow card soilPart rowPart i) rows
+      after = putAt (rowWidth card) (cellOf i) (newRow card soilPart rowPart i) rows
 
       go : (b : Answer) → answerOf card soilPart rowPart i ≡ b → rowsBy (siteAnswer card soil rows i) after rows ≡ after
       go (Accepted a) g = rw (reached e f, g)
-      go (Refused why) g = rw (reached e f, g) (sym (rw (stays card soilPart rowPart i why g) (put-back rowWidth (cellOf i) rows)))
+      go (Refused why) g = rw (reached e f, g) (sym (rw (stays card soilPart rowPart i why g) (put-back (rowWidth card) (cellOf i) rows)))
 
   -- ---- an accepted step: what was checked, and what it left
   module _ (a : Amounts) (e : siteAnswer card soil rows i ≡ Accepted a) where
@@ -119,36 +119,36 @@ module _ (card : Card) (soil : List ℤ) (rows : List ℕ) (i : Entry) where
     unfolding cellFits
     cell-below = ltb-true (cellOf i) (card .cells) cell-was
 
-    pub rows-long : length rows ≡ rowWidth * card .cells
+    pub rows-long : length rows ≡ rowWidth card * card .cells
     unfolding rowsFit
-    rows-long = eqb-true (length rows) (rowWidth * card .cells) (and-eq-true-iff (soilFits card soil) (rowsFit card rows) .0 lengths-were .1)
+    rows-long = eqb-true (length rows) (rowWidth card * card .cells) (and-eq-true-iff (soilFits card soil) (rowsFit card rows) .0 lengths-were .1)
 
-    has-room : rowWidth * cellOf i + rowWidth ≤ length rows
-    has-room = room rowWidth (cellOf i) (card .cells) rows rows-long cell-below
+    has-room : rowWidth card * cellOf i + rowWidth card ≤ length rows
+    has-room = room (rowWidth card) (cellOf i) (card .cells) rows rows-long cell-below
 
-    new-length : length (newRow card soilPart rowPart i) ≡ rowWidth
+    new-length : length (newRow card soilPart rowPart i) ≡ rowWidth card
     new-length = length-after card soilPart rowPart i a row-answer
 
-    rows-are : siteRows card soil rows i ≡ putAt rowWidth (cellOf i) (newRow card soilPart rowPart i) rows
+    rows-are : siteRows card soil rows i ≡ putAt (rowWidth card) (cellOf i) (newRow card soilPart rowPart i) rows
     rows-are = rows-reached lengths-were cell-was
 
     -- the named cell's row is the new one, every other cell's is as it was, and no other number of the slice differs
-    pub own-row : partAt rowWidth (cellOf i) (siteRows card soil rows i) ≡ newRow card soilPart rowPart i
-    own-row = rw rows-are (put-same rowWidth (cellOf i) (newRow card soilPart rowPart i) rows new-length has-room)
+    pub own-row : partAt (rowWidth card) (cellOf i) (siteRows card soil rows i) ≡ newRow card soilPart rowPart i
+    own-row = rw rows-are (put-same (rowWidth card) (cellOf i) (newRow card soilPart rowPart i) rows new-length has-room)
 
-    pub other-row : (p : ℕ) → ¬ (cellOf i ≡ p) → partAt rowWidth p (siteRows card soil rows i) ≡ partAt rowWidth p rows
-    other-row p ne = rw rows-are (put-other rowWidth (cellOf i) (newRow card soilPart rowPart i) rows new-length has-room p ne)
+    pub other-row : (p : ℕ) → ¬ (cellOf i ≡ p) → partAt (rowWidth card) p (siteRows card soil rows i) ≡ partAt (rowWidth card) p rows
+    other-row p ne = rw rows-are (put-other (rowWidth card) (cellOf i) (newRow card soilPart rowPart i) rows new-length has-room p ne)
 
-    pub outside : (j : ℕ) → ¬ ((rowWidth * cellOf i ≤ j) × (j < rowWidth * cellOf i + rowWidth)) → getD (siteRows card soil rows i) j 0 ≡ getD rows j 0
-    outside j n = rw rows-are (put-outside rowWidth (cellOf i) (newRow card soilPart rowPart i) rows new-length has-room j n)
+    pub outside : (j : ℕ) → ¬ ((rowWidth card * cellOf i ≤ j) × (j < rowWidth card * cellOf i + rowWidth card)) → getD (siteRows card soil rows i) j 0 ≡ getD rows j 0
+    outside j n = rw rows-are (put-outside (rowWidth card) (cellOf i) (newRow card soilPart rowPart i) rows new-length has-room j n)
 
     pub rows-length : length (siteRows card soil rows i) ≡ length rows
-    rows-length = rw rows-are (put-length rowWidth (cellOf i) (newRow card soilPart rowPart i) rows new-length has-room)
+    rows-length = rw rows-are (put-length (rowWidth card) (cellOf i) (newRow card soilPart rowPart i) rows new-length has-room)
 
 -- ---- what an answer and the rows promise, where they are those of the definitions
 module _ (card : Card) (soil : List ℤ) (rows : List ℕ) (i : Entry) where
   amounts-by : (x : Answer) → siteAnswer card soil rows i ≡ x
-      → amountsOf x ≡ cond (eqb (numberOf x) 0) (amountsOf (answerOf card (partAt soilWidth (cellOf i) soil) (partAt rowWidth (cellOf i) rows) i)) nothing
+      → amountsOf x ≡ cond (eqb (numberOf x) 0) (amountsOf (answerOf card (partAt soilWidth (cellOf i) soil) (partAt (rowWidth card) (cellOf i) rows) i)) nothing
   amounts-by (Accepted a) e = rw (row-answer card soil rows i a e)
   amounts-by (Refused why) e = rw (ne-eqb (refusalNumber why) 0 (λ z. omega (arith, refusal-in why .0)))
 
@@ -180,7 +180,7 @@ module _ (card : Card) (rows : List ℕ) where
 pub refused-gives : (card : Card) (soil : List ℤ) (rows : List ℕ) (i : Entry) (why : Refusal) → siteAnswer card soil rows i ≡ Refused why → SiteGives card soil rows i (Refused why) rows
 refused-gives card soil rows i why e = gives card soil rows i (sym e) (sym (rows-stay card soil rows i why e))
 
--- ---- an entry refused with 8, 9 or 10 does not use up its count
+-- ---- an entry refused with 8, 9, 10 or 15 does not use up its count
 -- the checks of a list, each with a number below n: they are passed where the first failing check of them and others has the number n or a higher one
 abbrev Below : ℕ → List (ℕ × Bool) → Type 0
 Below n [] = Unit {0}
@@ -246,7 +246,7 @@ count-open card soil rows i i' {answer} {after} g h n = (stay, same, ap firstFai
     were : firstFailing (take 7 (checksOf card soil rows i)) ≡ 0
     were = seven-passed card soil rows i (rw (g .number-is) at h)
 
--- [3] a void is never refused with a number above 8: 9 and 10 do not concern it
+-- [3] a void is never refused with a number above 8: 9, 10 and 15 do not concern it
 pub void-number : (card : Card) (soil : List ℤ) (rows : List ℕ) (n : Notice) → numberOf (siteAnswer card soil rows (Entry.Void n)) ≤ 8
 unfolding checksOf
 void-number card soil rows n =
@@ -254,7 +254,7 @@ void-number card soil rows n =
     let b = first-below 9 (checksOf card soil rows i) (omega arith) (omega arith, (omega arith, (omega arith, (omega arith, (omega arith, (omega arith, (omega arith, (omega arith, tt)))))))) in
     rw (first-failing card soil rows i) (omega (arith, b))
 
--- [3] so a reading that was refused with 8, 9 or 10, its life and count in range, can be mended: a void of its cell, life and count is accepted
+-- [3] so a reading that was refused with 8, 9, 10 or 15, its life and count in range, can be mended: a void of its cell, life and count is accepted
 pub void-mends : (card : Card) (soil : List ℤ) (rows : List ℕ) (r : Reading) {answer : Answer} {after : List ℕ} → SiteGives card soil rows (Entry.Reading r) answer after → 8 ≤ numberOf answer
     → noticeOk (noticed r) ≡ true → (a : Amounts) × (siteAnswer card soil after (Entry.Void (noticed r)) ≡ Accepted a)
 unfolding checksOf
@@ -267,24 +267,24 @@ void-mends card soil rows r {answer} {after} g h k =
 module _ (card : Card) (soil soil' : List ℤ) (rows rows' : List ℕ) (i : Entry)
     (soil-long : length soil ≡ length soil') (rows-long : length rows ≡ length rows')
     (same-soil : partAt soilWidth (cellOf i) soil ≡ partAt soilWidth (cellOf i) soil')
-    (same-row : partAt rowWidth (cellOf i) rows ≡ partAt rowWidth (cellOf i) rows') where
+    (same-row : partAt (rowWidth card) (cellOf i) rows ≡ partAt (rowWidth card) (cellOf i) rows') where
   pub same-answer : siteAnswer card soil rows i ≡ siteAnswer card soil' rows' i
   unfolding siteAnswer soilFits rowsFit
   same-answer = rw (soil-long, rows-long, same-soil, same-row)
 
-  pub same-new-row : partAt rowWidth (cellOf i) (siteRows card soil rows i) ≡ partAt rowWidth (cellOf i) (siteRows card soil' rows' i)
+  pub same-new-row : partAt (rowWidth card) (cellOf i) (siteRows card soil rows i) ≡ partAt (rowWidth card) (cellOf i) (siteRows card soil' rows' i)
   same-new-row = go (siteAnswer card soil rows i) refl
     where
-      go : (b : Answer) → siteAnswer card soil rows i ≡ b → partAt rowWidth (cellOf i) (siteRows card soil rows i) ≡ partAt rowWidth (cellOf i) (siteRows card soil' rows' i)
+      go : (b : Answer) → siteAnswer card soil rows i ≡ b → partAt (rowWidth card) (cellOf i) (siteRows card soil rows i) ≡ partAt (rowWidth card) (cellOf i) (siteRows card soil' rows' i)
       go (Accepted a) e =
           own-row card soil rows i a e
-          ∙ ap (λ (s : List ℤ). newRow card s (partAt rowWidth (cellOf i) rows) i) same-soil
+          ∙ ap (λ (s : List ℤ). newRow card s (partAt (rowWidth card) (cellOf i) rows) i) same-soil
           ∙ ap (λ (w : List ℕ). newRow card (partAt soilWidth (cellOf i) soil') w i) same-row
           ∙ sym (own-row card soil' rows' i a (sym same-answer ∙ e))
       go (Refused why) e =
-          ap (partAt rowWidth (cellOf i)) (rows-stay card soil rows i why e)
+          ap (partAt (rowWidth card) (cellOf i)) (rows-stay card soil rows i why e)
           ∙ same-row
-          ∙ sym (ap (partAt rowWidth (cellOf i)) (rows-stay card soil' rows' i why (sym same-answer ∙ e)))
+          ∙ sym (ap (partAt (rowWidth card) (cellOf i)) (rows-stay card soil' rows' i why (sym same-answer ∙ e)))
 
 -- clearing has three numbers
 pub clear-most : (card : Card) (rows : List ℕ) → clearNumber card rows ≤ 2
@@ -296,14 +296,14 @@ clear-most card rows = go (cardOk card) (rowsFit card rows)
     go true false = omega arith
     go true true = omega arith
 
--- ---- a cleared site: each cell's row is 32 zeros
-pub cleared-part : (card : Card) (rows : List ℕ) → clearNumber card rows ≡ 0 → (p : ℕ) → p < card .cells → partAt rowWidth p (clearRows card rows) ≡ replicate rowWidth 0
+-- ---- a cleared site: each cell's row is zeros
+pub cleared-part : (card : Card) (rows : List ℕ) → clearNumber card rows ≡ 0 → (p : ℕ) → p < card .cells → partAt (rowWidth card) p (clearRows card rows) ≡ replicate (rowWidth card) 0
 unfolding clearNumber clearRows rowsFit
-cleared-part card rows z p h = go (cardOk card) (eqb (length rows) (rowWidth * card .cells)) refl z
+cleared-part card rows z p h = go (cardOk card) (eqb (length rows) (rowWidth card * card .cells)) refl z
   where
-    go : (a b : Bool) → eqb (length rows) (rowWidth * card .cells) ≡ b → _≡_ {A = ℕ} (cond a (cond b 0 2) 1) 0 → partAt rowWidth p (cond (eqb (cond a (cond b 0 2) 1) 0) (replicate (length rows) 0) rows) ≡ replicate rowWidth 0
+    go : (a b : Bool) → eqb (length rows) (rowWidth card * card .cells) ≡ b → _≡_ {A = ℕ} (cond a (cond b 0 2) 1) 0 → partAt (rowWidth card) p (cond (eqb (cond a (cond b 0 2) 1) 0) (replicate (length rows) 0) rows) ≡ replicate (rowWidth card) 0
     go false b e f = absurd (omega arith)
     go true false e f = absurd (omega arith)
     go true true e f =
-        let l : length rows ≡ rowWidth * card .cells = eqb-true (length rows) (rowWidth * card .cells) e in
-        part-zeros rowWidth p (length rows) (let k : suc p ≤ card .cells = h in omega (arith, mul-le-mul-left rowWidth k))
+        let l : length rows ≡ rowWidth card * card .cells = eqb-true (length rows) (rowWidth card * card .cells) e in
+        part-zeros (rowWidth card) p (length rows) (let k : suc p ≤ card .cells = h in omega (arith, mul-le-mul-left (rowWidth card) k))

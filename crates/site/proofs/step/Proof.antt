@@ -1,6 +1,6 @@
 -- `site::step` meets its contract. Refused by check 2 or 3, or what the named row gives, put back in its place. Assumes nothing.
 use native.Mathlib.Omega.{arith}
-use mathlib.Core.Path.{_≡_, sym, ap, _∙_}
+use mathlib.Core.Path.{_≡_, refl, sym, ap, _∙_}
 use mathlib.Core.Bool.{true, false, _&&_}
 use mathlib.Core.List.{List, _++_}
 use Prim.Native.Nat.{ℕ, _+_, _-_, _*_, _≤_, _<_}
@@ -11,7 +11,7 @@ use lib.ListN.{length, take, drop}
 use Rattle.cell.specs.declared.Answer.{Answer}
 use Rattle.cell.specs.declared.Card.{Card}
 use Rattle.cell.specs.declared.Entry.{Entry}
-use Rattle.cell.specs.Ranges.{cellOf}
+use Rattle.cell.specs.Ranges.{rowWidth, cellOf}
 use Rattle.cell.specs.Step.{StepGives}
 use Rattle.site.specs.Rows.{partAt, putAt}
 use Rattle.site.specs.Site.{soilFits, rowsFit, cellFits, SiteGives}
@@ -30,11 +30,11 @@ module _ (card : Card) (soil : List ℤ) (rows : List ℕ) where
   unfolding soilFits
   soil-off n = rw (ne-eqb _ _ n)
 
-  rows-off : length soil ≡ 5 * card .cells → ¬ (length rows ≡ 32 * card .cells) → (soilFits card soil && rowsFit card rows) ≡ false
+  rows-off : length soil ≡ 5 * card .cells → ¬ (length rows ≡ rowWidth card * card .cells) → (soilFits card soil && rowsFit card rows) ≡ false
   unfolding soilFits rowsFit
   rows-off e n = rw (eq-eqb _ _ e, ne-eqb _ _ n)
 
-  both-fit : length soil ≡ 5 * card .cells → length rows ≡ 32 * card .cells → (soilFits card soil && rowsFit card rows) ≡ true
+  both-fit : length soil ≡ 5 * card .cells → length rows ≡ rowWidth card * card .cells → (soilFits card soil && rowsFit card rows) ≡ true
   unfolding soilFits rowsFit
   both-fit e f = rw (eq-eqb _ _ e, eq-eqb _ _ f)
 
@@ -49,19 +49,21 @@ cell-on card i ek h = rw (← ek) (lt-ltb _ _ h)
 
 -- what the named row gave, put back in its place
 module _ (card : Card) (soil : List ℤ) (rows : List ℕ) (i : Entry) (e : (soilFits card soil && rowsFit card rows) ≡ true) (f : cellFits card i ≡ true) where
-  row-gave : (k : ℕ) → k ≡ cellOf i → (answer : Answer) (after : List ℕ)
-      → StepGives card (take (5 * k + 5 - 5 * k) (drop (5 * k) soil)) (take (32 * k + 32 - 32 * k) (drop (32 * k) rows)) i answer after
-      → SiteGives card soil rows i answer (putMid (32 * k) (32 * k + 32 - 32 * k) rows after)
+  -- over rows of w numbers
+  row-gave : (w : ℕ) → w ≡ rowWidth card → (k : ℕ) → k ≡ cellOf i → (answer : Answer) (after : List ℕ)
+      → StepGives card (take (5 * k + 5 - 5 * k) (drop (5 * k) soil)) (take (w * k + w - w * k) (drop (w * k) rows)) i answer after
+      → SiteGives card soil rows i answer (putMid (w * k) (w * k + w - w * k) rows after)
   unfolding partAt putAt
-  row-gave k ek answer after g =
+  row-gave w ew k ek answer after g =
       let s : 5 * k + 5 - 5 * k ≡ 5 = omega arith in
-      let w : 32 * k + 32 - 32 * k ≡ 32 = omega arith in
-      let h : StepGives card (partAt 5 (cellOf i) soil) (partAt 32 (cellOf i) rows) i answer after = rw (s, w, ek) at g in
+      let u : w * k + w - w * k ≡ w = omega arith in
+      let h : StepGives card (partAt 5 (cellOf i) soil) (partAt (rowWidth card) (cellOf i) rows) i answer after = rw (s, u, ek, ew) at g in
       gives card soil rows i
       (h .answer-is ∙ sym (reached card soil rows i e f))
-      (ap (λ (t : List ℕ). take (32 * k) rows ++ (after ++ t)) (post-is (32 * k) (32 * k + 32) rows (omega arith))
-      ∙ ap (λ (c : ℕ). putAt 32 c after rows) ek
-      ∙ ap (λ (t : List ℕ). putAt 32 (cellOf i) t rows) (h .row-is)
+      (ap (λ (t : List ℕ). take (w * k) rows ++ (after ++ t)) (post-is (w * k) (w * k + w) rows (omega arith))
+      ∙ ap (λ (v : ℕ). putAt v k after rows) ew
+      ∙ ap (λ (c : ℕ). putAt (rowWidth card) c after rows) ek
+      ∙ ap (λ (t : List ℕ). putAt (rowWidth card) (cellOf i) t rows) (h .row-is)
       ∙ sym (rows-reached card soil rows i e f))
 
 cast-cells : tie.Need-cast-cells
@@ -150,7 +152,7 @@ returns-4 c =
     let a = c .before .before .before .before .before .before .before .before .before .before .before .args in
     let t = c .before .before .step-row in
     let k = c .before .before .before .before .before .before .before .before .cell-of in
-    row-gave (a .card) (a .soil .now) (a .rows .now) (a .e) (both-fit _ _ _ (c .before .before .before .before .before .before .before .if1 .left) (c .before .before .before .before .before .before .if2 .left)) (cell-on _ _ (k .ensures) (c .before .before .before .before .before .if3 .left)) (k .result) (k .ensures) (t .result) (t .last .1 .1 .0) (t .ensures)
+    row-gave (a .card) (a .soil .now) (a .rows .now) (a .e) (both-fit _ _ _ (c .before .before .before .before .before .before .before .if1 .left) (c .before .before .before .before .before .before .if2 .left)) (cell-on _ _ (k .ensures) (c .before .before .before .before .before .if3 .left)) (rowWidth (a .card)) refl (k .result) (k .ensures) (t .result) (t .last .1 .1 .0) (t .ensures)
 
 pub step-spec : {M : Type 1} → statement M
 step-spec =
