@@ -9,7 +9,9 @@ use crate::ranges;
 
 // The places of the two sums in a row, and the most that one holds.
 pub const RUNOFF_AT: usize = 32;
+
 pub const DRAIN_AT: usize = 34;
+
 pub const SUM_LIMIT: u64 = 1000000000000000000;
 
 // The sum at a place.

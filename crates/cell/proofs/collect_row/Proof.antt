@@ -25,7 +25,7 @@ nothing-collected-requires : tie.Need-nothing-collected-requires
 nothing-collected-requires c κs = search needs
 
 returns : tie.Need-returns
-returns c = 
+returns c =
     let a = c .before .before .before .before .args in
     rw (c .nothing-collected .ensures) (collect-card (a .card) (a .row .now) (sym (c .before .before .card-ok .ensures) ∙ not-true _ (c .before .if1 .taken)))
 
@@ -39,7 +39,7 @@ same-length : tie.Need-same-length
 same-length c = search needs
 
 returns-2 : tie.Need-returns-2
-returns-2 c = 
+returns-2 c =
     let a = c .before .before .before .before .before .before .before .args in
     let p = sym (c .before .before .before .before .before .card-ok .ensures) ∙ not-false _ (c .before .before .before .before .if1 .left) in
     rw (c .nothing-collected2 .ensures) (collect-row (a .card) (a .row .now) p (row-by (a .card) (a .row .now) p (c .before .before .row-ok .ensures) ∙ not-true _ (c .before .if2 .taken)))
@@ -51,7 +51,7 @@ sum-of-requires-2 : tie.Need-sum-of-requires-2
 sum-of-requires-2 c κs = search needs
 
 empty-requires : tie.Need-empty-requires
-empty-requires c κs = 
+empty-requires c κs =
     let a = c .before .before .before .before .before .before .before .before .before .before .before .args in
     let p = sym (c .before .before .before .before .before .before .before .before .before .card-ok .ensures) ∙ not-false _ (c .before .before .before .before .before .before .before .before .if1 .left) in
     omega (arith, row-in (a .card) (a .row .now) (row-by (a .card) (a .row .now) p (c .before .before .before .before .before .before .row-ok .ensures) ∙ not-false _ (c .before .before .before .before .before .if2 .left)) .long)
@@ -60,7 +60,7 @@ same-length-2 : tie.Need-same-length-2
 same-length-2 c = search needs
 
 returns-3 : tie.Need-returns-3
-returns-3 c = 
+returns-3 c =
     let a = c .before .before .before .before .before .before .before .before .before .before .before .before .before .before .args in
     let p = sym (c .before .before .before .before .before .before .before .before .before .before .before .before .card-ok .ensures) ∙ not-false _ (c .before .before .before .before .before .before .before .before .before .before .before .if1 .left) in
     collect-done (a .card) (a .row .now) p (row-by (a .card) (a .row .now) p (c .before .before .before .before .before .before .before .before .before .row-ok .ensures) ∙ not-false _ (c .before .before .before .before .before .before .before .before .if2 .left)) (c .before .before .before .before .before .before .sum-of .ensures) (c .before .before .before .before .sum-of2 .ensures) (c .before .before .empty .ensures)

@@ -110,13 +110,13 @@ enum-known-verdict-2 c = search needs
 
 soil-of-requires : tie.Need-soil-of-requires
 unfolding lifeOf nextOf
-soil-of-requires c κs = 
+soil-of-requires c κs =
     let a = c .before .before .before .before .before .before .before .before .before .before .before .before .args in
     passing (a .card) (a .soil .now) (a .row .now) (a .e) (c .before .before .before .before .before .before .before .before .before .before .reading-of .ensures) (verdict-of (a .card) (a .soil .now) (a .row .now) (Entry.Reading (c .before .before .before .before .before .before .before .before .before .before .reading-of .result)) _ _ _ _ (c .before .before .before .before .before .before .before .before .row-ok .ensures) (c .before .before .before .before .before .before .number-at .ensures) (c .before .before .before .before .number-at2 .ensures) (c .before .before .before .judge .ensures)) (c .before .verdict2 .given .1) .soil-ok
 
 accept-requires : tie.Need-accept-requires
 unfolding lifeOf nextOf
-accept-requires c κs = 
+accept-requires c κs =
     let a = c .before .before .before .before .before .before .before .before .before .before .before .before .before .before .args in
     let f = c .before .before .before .verdict2 .given .1 in (
       ranged (a .card) (a .soil .now) (a .row .now) (a .e) (c .before .before .before .before .before .before .before .before .before .before .before .before .reading-of .ensures) (verdict-of (a .card) (a .soil .now) (a .row .now) (Entry.Reading (c .before .before .before .before .before .before .before .before .before .before .before .before .reading-of .result)) _ _ _ _ (c .before .before .before .before .before .before .before .before .before .before .row-ok .ensures) (c .before .before .before .before .before .before .before .before .number-at .ensures) (c .before .before .before .before .before .before .number-at2 .ensures) (c .before .before .before .before .before .judge .ensures)) f (c .before .soil-of .ensures),
@@ -128,7 +128,7 @@ same-length c = search needs
 
 returns : tie.Need-returns
 unfolding lifeOf nextOf
-returns c = 
+returns c =
     let a = c .before .before .before .before .before .before .before .before .before .before .before .before .args in
     refused (a .card) (a .soil .now) (a .row .now) (a .e) (c .before .before .before .before .before .before .before .before .before .before .reading-of .ensures) (verdict-of (a .card) (a .soil .now) (a .row .now) (Entry.Reading (c .before .before .before .before .before .before .before .before .before .before .reading-of .result)) _ _ _ _ (c .before .before .before .before .before .before .before .before .row-ok .ensures) (c .before .before .before .before .before .before .number-at .ensures) (c .before .before .before .before .number-at2 .ensures) (c .before .before .before .judge .ensures)) (c .before .verdict .given .1)
 
@@ -137,7 +137,7 @@ same-length-2 c = search needs
 
 returns-2 : tie.Need-returns-2
 unfolding lifeOf nextOf
-returns-2 c = 
+returns-2 c =
     let a = c .before .before .before .before .before .before .before .before .before .before .before .before .before .before .before .before .before .args in
     let t = c .before .before .accept in
     accepted (a .card) (a .soil .now) (a .row .now) (a .e) (c .before .before .before .before .before .before .before .before .before .before .before .before .before .before .before .reading-of .ensures) (verdict-of (a .card) (a .soil .now) (a .row .now) (Entry.Reading (c .before .before .before .before .before .before .before .before .before .before .before .before .before .before .before .reading-of .result)) _ _ _ _ (c .before .before .before .before .before .before .before .before .before .before .before .before .before .row-ok .ensures) (c .before .before .before .before .before .before .before .before .before .before .before .number-at .ensures) (c .before .before .before .before .before .before .before .before .before .number-at2 .ensures) (c .before .before .before .before .before .before .before .before .judge .ensures)) (c .before .before .before .before .before .before .verdict2 .given .1) (c .before .before .before .before .soil-of .ensures) (t .ensures)

@@ -39,7 +39,7 @@ card-ok-requires c κs = search needs
 
 returns : tie.Need-returns
 unfolding unless
-returns c = 
+returns c =
     let s = c .before .before .args in
     by-checks (s .card) (s .soil .now) (s .fits) (s .life) (s .next) (s .r) (sym (c .before .card-ok .ensures) ∙ not-true _ (c .if1 .taken)) refl refl refl refl refl
 
@@ -48,13 +48,13 @@ soil-ok-requires c κs = search needs
 
 returns-2 : tie.Need-returns-2
 unfolding unless
-returns-2 c = 
+returns-2 c =
     let s = c .before .before .before .before .args in
     by-checks (s .card) (s .soil .now) (s .fits) (s .life) (s .next) (s .r) (card-good (c .before .before)) (sym (c .before .soil-ok .ensures) ∙ not-true _ (c .if2 .taken)) refl refl refl refl
 
 returns-3 : tie.Need-returns-3
 unfolding unless
-returns-3 c = 
+returns-3 c =
     let s = c .before .before .before .before .before .args in
     by-checks (s .card) (s .soil .now) (s .fits) (s .life) (s .next) (s .r) (card-good (c .before .before .before)) (soil-good (c .before)) (not-true _ (c .if3 .taken)) refl refl refl
 
@@ -63,7 +63,7 @@ is-old-requires c κs = search needs
 
 returns-4 : tie.Need-returns-4
 unfolding unless
-returns-4 c = 
+returns-4 c =
     let s = c .before .before .before .before .before .before .before .args in
     by-checks (s .card) (s .soil .now) (s .fits) (s .life) (s .next) (s .r) (card-good (c .before .before .before .before .before)) (soil-good (c .before .before .before)) (not-false _ (c .before .before .if3 .left)) (sym (c .before .is-old .ensures) ∙ c .if4 .taken) refl refl
 
@@ -72,7 +72,7 @@ is-gap-requires c κs = search needs
 
 returns-5 : tie.Need-returns-5
 unfolding unless
-returns-5 c = 
+returns-5 c =
     let s = c .before .before .before .before .before .before .before .before .before .args in
     by-checks (s .card) (s .soil .now) (s .fits) (s .life) (s .next) (s .r) (card-good (c .before .before .before .before .before .before .before)) (soil-good (c .before .before .before .before .before)) (not-false _ (c .before .before .before .before .if3 .left)) (sym (c .before .before .before .is-old .ensures) ∙ c .before .before .if4 .left) (sym (c .before .is-gap .ensures) ∙ c .if5 .taken) refl
 
@@ -81,7 +81,7 @@ fields-ok-requires c κs = search needs
 
 returns-6 : tie.Need-returns-6
 unfolding unless
-returns-6 c = 
+returns-6 c =
     let s = c .before .before .before .before .before .before .before .before .before .before .before .args in
     by-checks (s .card) (s .soil .now) (s .fits) (s .life) (s .next) (s .r) (card-good (c .before .before .before .before .before .before .before .before .before)) (soil-good (c .before .before .before .before .before .before .before)) (not-false _ (c .before .before .before .before .before .before .if3 .left)) (sym (c .before .before .before .before .before .is-old .ensures) ∙ c .before .before .before .before .if4 .left) (sym (c .before .before .before .is-gap .ensures) ∙ c .before .before .if5 .left) (sym (c .before .fields-ok .ensures) ∙ not-true _ (c .if6 .taken))
 
@@ -96,7 +96,7 @@ sound-requires c κs = rw (toZ-ofZ (sfits-of (c .before .t18 .given))) (soil-in 
 
 returns-7 : tie.Need-returns-7
 unfolding unless
-returns-7 c = 
+returns-7 c =
     let s = c .before .before .before .before .before .before .before .before .before .before .before .before .before .before .args in
     rw (c .sound .ensures, toZ-ofZ (sfits-of (c .before .before .t18 .given)), c .before .classify .ensures)
     (by-checks (s .card) (s .soil .now) (s .fits) (s .life) (s .next) (s .r) (card-good (c .before .before .before .before .before .before .before .before .before .before .before .before)) (soil-good (c .before .before .before .before .before .before .before .before .before .before)) (not-false _ (c .before .before .before .before .before .before .before .before .before .if3 .left)) (sym (c .before .before .before .before .before .before .before .before .is-old .ensures) ∙ c .before .before .before .before .before .before .before .if4 .left) (sym (c .before .before .before .before .before .before .is-gap .ensures) ∙ c .before .before .before .before .before .if5 .left) (sym (c .before .before .before .before .fields-ok .ensures) ∙ not-false _ (c .before .before .before .if6 .left)))

@@ -25,13 +25,13 @@ part-turn-start : tie.Need-part-turn-start
 part-turn-start c = search needs
 
 part-turn-end : tie.Need-part-turn-end
-part-turn-end c = 
+part-turn-end c =
     let o = c .before .before in
     let l = row-in (o .args .card) (o .args .row .now) (o .pre .1 .0) .form .least in
     omega (arith, o .pre .0 .delays)
 
 turn-requires : tie.Need-turn-requires
-turn-requires c κs = 
+turn-requires c κs =
     let o = c .before .before .before in
     let a = o .args in
     let e = part-is (a .card .delays) (a .row .now) in (
@@ -43,7 +43,7 @@ turn-requires c κs =
     )
 
 slice-write-row : tie.Need-slice-write-row
-slice-write-row c = 
+slice-write-row c =
     let o = c .before .before .before .before .before .before in
     omega (arith, row-in (o .args .card) (o .args .row .now) (o .pre .1 .0) .form .least)
 
@@ -51,7 +51,7 @@ add-row : tie.Need-add-row
 add-row c = search needs
 
 slice-write-row-2 : tie.Need-slice-write-row-2
-slice-write-row-2 c = 
+slice-write-row-2 c =
     let o = c .before .before .before .before .before .before .before in
     simp length-set (omega (arith, row-in (o .args .card) (o .args .row .now) (o .pre .1 .0) .form .least))
 
@@ -60,7 +60,7 @@ same-length c = search needs
 
 returns : tie.Need-returns
 unfolding rowMoved queueBy
-returns c = 
+returns c =
     let o = c .before .before .before .before .before .before .before in
     let a = o .args in
     let t = c .before .before .before .turn in

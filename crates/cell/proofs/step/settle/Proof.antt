@@ -47,7 +47,7 @@ stored-requires : tie.Need-stored-requires
 stored-requires c κs = search needs
 
 returns : tie.Need-returns
-returns c = 
+returns c =
     let a = c .before .before .before .before .before .before .before .before .before .before .before .before .before .args in
     whole (a .soil) (a .r) (a .d) (a .w) (a .p .release .0) (a .p .drawn .0) (c .before .before .before .before .etsat .ensures .0) (c .before .before .before .direct .ensures .0) (c .before .recharge .ensures) (c .stored .ensures .0)
 

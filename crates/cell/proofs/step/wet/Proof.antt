@@ -65,7 +65,7 @@ sub-t16 : tie.Need-sub-t16
 sub-t16 c = search needs
 
 returns : tie.Need-returns
-returns c = 
+returns c =
     let a = c .before .before .before .before .before .before .before .before .before .before .before .before .before .before .before .before .args in
     whole (a .card) (a .soil) (a .r) (a .d) (c .before .before .before .before .before .before .before .before .before .storm-on .ensures .0) (c .before .before .before .before .before .before .before .before .delay .ensures .0) (c .before .before .before .before .before .before .before .runoff .ensures .0) (c .before .before .before .before .before .etvad .ensures .0) (c .before .before .before .before .lack .ensures .0) (c .before .before .before .drain .ensures .0)
 
