@@ -43,8 +43,8 @@ step {h} {q} {q'} s m v =
 -- what holds of plot p's history and row, and is kept by each step that the row takes, is kept by a run
 module _ (card : Card) (p : ℕ) (I : History → List ℕ → Type 0)
     (keep : (h : History) (soil : List ℤ) (row : List ℕ) (i : Entry) (a : Amounts) → answerOf card soil row i ≡ Accepted a → I h row → I (stepOf card soil row i a ∷ h) (newRow card soil row i)) where
-  one : (h : History) (rows : List ℕ) (c : Call) (answer : Answer) → siteAnswer card (c .soil) rows (c .entry) ≡ answer → I h (rowOf p rows)
-      → I (noted card p rows c answer h) (rowOf p (siteRows card (c .soil) rows (c .entry)))
+  one : (h : History) (rows : List ℕ) (c : Call) (answer : Answer) → siteAnswer card (c .soil) rows (c .entry) ≡ answer → I h (rowOf card p rows)
+      → I (noted card p rows c answer h) (rowOf card p (siteRows card (c .soil) rows (c .entry)))
   one h rows c (Refused why) e v = rw (rows-stay card (c .soil) rows (c .entry) why e) v
   one h rows c (Accepted a) e v = named (eqb (cellOf (c .entry)) p) refl
     where
@@ -52,15 +52,15 @@ module _ (card : Card) (p : ℕ) (I : History → List ℕ → Type 0)
       after = siteRows card (c .soil) rows (c .entry)
 
       stepped : ℕ → History
-      stepped k = stepOf card (partAt soilWidth k (c .soil)) (rowOf k rows) (c .entry) a ∷ h
+      stepped k = stepOf card (partAt soilWidth k (c .soil)) (rowOf card k rows) (c .entry) a ∷ h
 
-      named : (b : Bool) → eqb (cellOf (c .entry)) p ≡ b → I (cond b (stepped p) h) (rowOf p after)
+      named : (b : Bool) → eqb (cellOf (c .entry)) p ≡ b → I (cond b (stepped p) h) (rowOf card p after)
       named true i =
-          subst (λ (k : ℕ). I h (rowOf k rows) → I (stepped k) (rowOf k after)) (eqb-true (cellOf (c .entry)) p i)
-          (λ w. rw (own-row card (c .soil) rows (c .entry) a e) (keep h (partAt soilWidth (cellOf (c .entry)) (c .soil)) (rowOf (cellOf (c .entry)) rows) (c .entry) a (row-answer card (c .soil) rows (c .entry) a e) w))
+          subst (λ (k : ℕ). I h (rowOf card k rows) → I (stepped k) (rowOf card k after)) (eqb-true (cellOf (c .entry)) p i)
+          (λ w. rw (own-row card (c .soil) rows (c .entry) a e) (keep h (partAt soilWidth (cellOf (c .entry)) (c .soil)) (rowOf card (cellOf (c .entry)) rows) (c .entry) a (row-answer card (c .soil) rows (c .entry) a e) w))
           v
       named false i = rw (other-row card (c .soil) rows (c .entry) a e p (eqb-false (cellOf (c .entry)) p i)) v
 
-  pub along : {rows after : List ℕ} {cs : List Call} {answers : List Answer} (h : History) (ran : Ran card rows cs answers after) → I h (rowOf p rows) → I (historyOf p h ran) (rowOf p after)
+  pub along : {rows after : List ℕ} {cs : List Call} {answers : List Answer} (h : History) (ran : Ran card rows cs answers after) → I h (rowOf card p rows) → I (historyOf p h ran) (rowOf card p after)
   along h done v = v
   along h (then {rows = rows} {c = c} {answer = answer} g ran) v = along (noted card p rows c answer h) ran (rw (g .rows-are) (one h rows c answer (sym (g .answer-is)) v))

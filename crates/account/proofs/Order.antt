@@ -33,8 +33,9 @@ follows (last ∷ h) s v (inr o) = inr (omega arith)
 abbrev pub Ordered : History → List ℕ → Type 0
 Ordered h row = InSequence h × Leaves h (lifeOf row) (nextOf row)
 
-pub begins : Ordered [] (replicate 32 0)
-begins = (tt, (cleared-life, cleared-next))
+-- from a cleared row of w numbers
+pub begins : (w : ℕ) → Ordered [] (replicate w 0)
+begins w = (tt, (cleared-life w, cleared-next w))
 
 pub goes-on : (card : Card) (h : History) (soil : List ℤ) (row : List ℕ) (i : Entry) (a : Amounts) → answerOf card soil row i ≡ Accepted a
     → Ordered h row → Ordered (stepOf card soil row i a ∷ h) (newRow card soil row i)

@@ -9,10 +9,10 @@ use Rattle.cell.specs.declared.Answer.{Answer}
 use Rattle.cell.specs.declared.Answer.the-variants.{Accepted, Refused}
 use Rattle.cell.specs.declared.Card.{Card}
 use Rattle.cell.specs.declared.Entry.{Entry}
-use Rattle.cell.specs.Ranges.{noticeOf, cellOf}
+use Rattle.cell.specs.Ranges.{rowWidth, noticeOf, cellOf}
 use Rattle.cell.specs.Step.{stepDelay, stepDraws}
 use Rattle.site.specs.Rows.{partAt}
-use Rattle.site.specs.Site.{soilWidth, rowWidth, SiteGives}
+use Rattle.site.specs.Site.{soilWidth, SiteGives}
 use Rattle.account.specs.Ledger.{Step, History}
 
 -- one call of the site's step: the soil slice that it lends, and the entry, a reading or a void
@@ -27,8 +27,8 @@ pub data Ran (card : Card) : List ℕ → List Call → List Answer → List ℕ
       → SiteGives card (c .soil) rows (c .entry) answer next → Ran card next cs answers after → Ran card rows (c ∷ cs) (answer ∷ answers) after
 
 -- the row of a plot in the site's slice
-abbrev pub rowOf : ℕ → List ℕ → List ℕ
-rowOf p rows = partAt rowWidth p rows
+abbrev pub rowOf : Card → ℕ → List ℕ → List ℕ
+rowOf card p rows = partAt (rowWidth card) p rows
 
 -- an accepted step with the amounts of its answer; soil and row are the plot's numbers as the call found them
 abbrev pub stepOf : Card → List ℤ → List ℕ → Entry → Amounts → Step
@@ -37,7 +37,7 @@ stepOf card soil row e a = record { life = noticeOf e .life; count = noticeOf e 
 -- the history of plot p after one more call, which found these rows: a step more if it names p and is accepted, else as it was
 abbrev pub noted : Card → ℕ → List ℕ → Call → Answer → History → History
 noted card p rows c (Refused why) h = h
-noted card p rows c (Accepted a) h = cond (eqb (cellOf (c .entry)) p) (stepOf card (partAt soilWidth p (c .soil)) (rowOf p rows) (c .entry) a ∷ h) h
+noted card p rows c (Accepted a) h = cond (eqb (cellOf (c .entry)) p) (stepOf card (partAt soilWidth p (c .soil)) (rowOf card p rows) (c .entry) a ∷ h) h
 
 -- the history of plot p after a run, h before it: made of the run's own answers, call after call
 abbrev pub historyOf : {card : Card} {rows after : List ℕ} {cs : List Call} {answers : List Answer} → ℕ → History → Ran card rows cs answers after → History

@@ -10,6 +10,7 @@ use lib.Dec.{leb}
 use lib.IntN.{ℤ, pos}
 use lib.ListN.{length, take, drop, replicate, length-replicate}
 use lib.Seq.{sets, sets-eq}
+use Rattle.cell.specs.Ranges.{rowWidth}
 use Rattle.text.specs.declared.card.CardRead.{CardRead}
 use Rattle.text.specs.Cards.{parse, cardResult, soilResult}
 use Rattle.text.specs.CardTexts.{cells-most, card-next, result-line, result-card, result-soil}
@@ -64,7 +65,7 @@ module _ (s : List ℕ) (r : CardRead) (v : List ℤ) (e : r ≡ cardResult (par
     inside = rw whole (card-next s no-line)
 
     pub read-book : length s ≤ inputLimit
-        → bookOf s ≡ clearedText (r .card) (take (5 * r .card .cells) v) (take (32 * r .card .cells) (replicate 8192 0)) (take (length s - r .taken) (drop (r .taken) s))
+        → bookOf s ≡ clearedText (r .card) (take (5 * r .card .cells) v) (take (rowWidth (r .card) * r .card .cells) (replicate 9216 0)) (take (length s - r .taken) (drop (r .taken) s))
     read-book h =
         book-read s h no-line
-        ∙ rw (rest-is (r .taken) s, fewer-zeros (32 * r .card .cells) 8192 (omega (arith, few)), whole, result-soil s zeros wide v g no-line)
+        ∙ rw (rest-is (r .taken) s, fewer-zeros (rowWidth (r .card) * r .card .cells) 9216 (omega (arith, few)), whole, result-soil s zeros wide v g no-line)

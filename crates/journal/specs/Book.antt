@@ -9,8 +9,9 @@ use lib.ListN.{length, drop, replicate}
 use Rattle.form.specs.Bytes.{bytes}
 use Rattle.form.specs.Form.{formText}
 use Rattle.cell.specs.declared.Card.{Card}
+use Rattle.cell.specs.Ranges.{rowWidth}
 use Rattle.site.specs.declared.Sheet.{Sheet}
-use Rattle.site.specs.Site.{rowWidth, clearNumber, clearRows}
+use Rattle.site.specs.Site.{clearNumber, clearRows}
 use Rattle.site.specs.Sheet.{noSteps, afterAll}
 use Rattle.text.specs.Cards.{parse}
 use Rattle.text.specs.Printed.{sheetText}
@@ -40,7 +41,7 @@ entriesText n card soil rows sheet line s =
 -- ---- the book
 -- no row is stored before the site is cleared
 abbrev pub freshRows : Card → List ℕ
-freshRows card = replicate (rowWidth * card .cells) 0
+freshRows card = replicate (rowWidth card * card .cells) 0
 
 -- with the card read: cleared, then the entries, which start below the card's lines
 unfoldable pub clearedText : Card → List ℤ → List ℕ → List ℕ → List ℕ

@@ -48,10 +48,10 @@ pub fn book(input: &[u8], out: &mut [u8]) -> usize
     if c.line != 0 {
         return lines::put_malformed(c.line, out, 0);
     }
-    let mut rows = [0u32; 8192];
+    let mut rows = [0u32; 9216];
     let cells = c.card.cells as usize;
     let soil_end = 5 * cells;
-    let rows_end = 32 * cells;
+    let rows_end = 36 * cells;
     let from = c.taken;
     cleared(
         c.card,

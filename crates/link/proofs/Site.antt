@@ -19,10 +19,10 @@ use Rattle.cell.specs.declared.Notice.{Notice}
 use Rattle.cell.specs.AnswerLaws.{was-in-order, life-after, next-after}
 use Rattle.cell.specs.CheckLaws.{InOrder}
 use Rattle.cell.specs.RangeLaws.{cleared-life, cleared-next, notice-ok}
-use Rattle.cell.specs.Ranges.{cardOk, soilOk, rowOk, lifeOf, nextOf, noticeOf, cellOf}
+use Rattle.cell.specs.Ranges.{cardOk, soilOk, rowWidth, rowOk, lifeOf, nextOf, noticeOf, cellOf}
 use Rattle.cell.specs.Step.{newRow}
 use Rattle.site.specs.Rows.{partAt}
-use Rattle.site.specs.Site.{soilWidth, rowWidth, soilFits, rowsFit, cellFits, siteAnswer, siteRows, SiteGives, ClearGives}
+use Rattle.site.specs.Site.{soilWidth, soilFits, rowsFit, cellFits, siteAnswer, siteRows, SiteGives, ClearGives}
 use Rattle.site.specs.SiteLaws.{row-answer, own-row, other-row, rows-stay, cleared-part}
 use Rattle.account.specs.Run.{Call, rowOf}
 use Rattle.account.proofs.Demand3.{void-passes}
@@ -67,28 +67,28 @@ module _ (card : Card) (p : ℕ) (rows after : List ℕ) (c : Call) where
     abbrev soil : List ℤ
     soil = partAt soilWidth (cellOf e) (c .soil)
 
-    row-is : rowOf p after ≡ newRow card soil (rowOf (cellOf e) rows) e
-    row-is = ap (λ (k : ℕ). rowOf k after) (sym (a .own)) ∙ ap (rowOf (cellOf e)) (sym (a .rows-after)) ∙ own-row card (c .soil) rows e (a .amounts) (a .answer)
+    row-is : rowOf card p after ≡ newRow card soil (rowOf card (cellOf e) rows) e
+    row-is = ap (λ (k : ℕ). rowOf card k after) (sym (a .own)) ∙ ap (rowOf card (cellOf e)) (sym (a .rows-after)) ∙ own-row card (c .soil) rows e (a .amounts) (a .answer)
 
-    in-order : InOrder (lifeOf (rowOf p rows)) (nextOf (rowOf p rows)) (noticeOf e)
+    in-order : InOrder (lifeOf (rowOf card p rows)) (nextOf (rowOf card p rows)) (noticeOf e)
     in-order =
-        subst (λ (k : ℕ). InOrder (lifeOf (rowOf k rows)) (nextOf (rowOf k rows)) (noticeOf e)) (a .own)
-        (was-in-order card soil (rowOf (cellOf e) rows) e (a .amounts) (row-answer card (c .soil) rows e (a .amounts) (a .answer)))
+        subst (λ (k : ℕ). InOrder (lifeOf (rowOf card k rows)) (nextOf (rowOf card k rows)) (noticeOf e)) (a .own)
+        (was-in-order card soil (rowOf card (cellOf e) rows) e (a .amounts) (row-answer card (c .soil) rows e (a .amounts) (a .answer)))
 
-    moved-on : (lifeOf (rowOf p after) ≡ lifeIn e) × (nextOf (rowOf p after) ≡ countIn e + 1)
+    moved-on : (lifeOf (rowOf card p after) ≡ lifeIn e) × (nextOf (rowOf card p after) ≡ countIn e + 1)
     moved-on =
         let g = row-answer card (c .soil) rows e (a .amounts) (a .answer) in (
-          ap lifeOf row-is ∙ life-after card soil (rowOf (cellOf e) rows) e (a .amounts) g,
-          ap nextOf row-is ∙ next-after card soil (rowOf (cellOf e) rows) e (a .amounts) g,
+          ap lifeOf row-is ∙ life-after card soil (rowOf card (cellOf e) rows) e (a .amounts) g,
+          ap nextOf row-is ∙ next-after card soil (rowOf card (cellOf e) rows) e (a .amounts) g,
         )
 
   -- any other call leaves the plot's row
-  stays : Given card p rows c false after → rowOf p after ≡ rowOf p rows
+  stays : Given card p rows c false after → rowOf card p after ≡ rowOf card p rows
   stays g = go (g .answer) (by-contract (g .gives) .0) (sym (g .taken-is)) (ℕ-discrete (cellOf e) p)
     where
-      go : (b : Answer) → siteAnswer card (c .soil) rows e ≡ b → (eqb (cellOf e) p && accepts b) ≡ false → Dec (cellOf e ≡ p) → rowOf p after ≡ rowOf p rows
-      go (Refused why) q t d = ap (rowOf p) (sym (by-contract (g .gives) .1) ∙ rows-stay card (c .soil) rows e why q)
-      go (Accepted a) q t (no n) = ap (rowOf p) (sym (by-contract (g .gives) .1)) ∙ other-row card (c .soil) rows e a q p n
+      go : (b : Answer) → siteAnswer card (c .soil) rows e ≡ b → (eqb (cellOf e) p && accepts b) ≡ false → Dec (cellOf e ≡ p) → rowOf card p after ≡ rowOf card p rows
+      go (Refused why) q t d = ap (rowOf card p) (sym (by-contract (g .gives) .1) ∙ rows-stay card (c .soil) rows e why q)
+      go (Accepted a) q t (no n) = ap (rowOf card p) (sym (by-contract (g .gives) .1)) ∙ other-row card (c .soil) rows e a q p n
       go (Accepted a) q t (yes k) = let z : true ≡ false = sym (rw (eq-eqb (cellOf e) p k)) ∙ t in let y : _≡_ {A = ℕ} 0 1 = cc in absurd (omega arith)
 
 pub orderly : (card : Card) (p : ℕ) → Orderly p (siteGateway card p)
@@ -103,8 +103,8 @@ orderly card p =
 -- ---- a run starts from a fresh outbox and a row that was cleared
 pub from-cleared : (card : Card) (p : ℕ) {rows cleared : List ℕ} → freshOf p .number ≡ 0 → ClearGives card rows 0 cleared → p < card .cells → Run p (siteGateway card p) (first p (siteGateway card p) cleared)
 from-cleared card p {rows} {cleared} f g h =
-    let e : rowOf p cleared ≡ replicate rowWidth 0 = ap (rowOf p) (g .rows-are) ∙ cleared-part card rows (sym (g .number-is)) p h in
-    starts cleared f (ap lifeOf e ∙ cleared-life) (ap nextOf e ∙ cleared-next)
+    let e : rowOf card p cleared ≡ replicate (rowWidth card) 0 = ap (rowOf card p) (g .rows-are) ∙ cleared-part card rows (sym (g .number-is)) p h in
+    starts cleared f (ap lifeOf e ∙ cleared-life (rowWidth card)) (ap nextOf e ∙ cleared-next (rowWidth card))
 
 -- ---- 4. the way out: where the row expects the outbox's oldest, and card, lengths, cell, soil numbers and row are good, `replace` puts a void there that is offered next
 -- and accepted
@@ -113,7 +113,7 @@ pub record Good (card : Card) (soil : List ℤ) (rows : List ℕ) (e : Entry) : 
   pub lengths : (soilFits card soil && rowsFit card rows) ≡ true
   pub cell : cellFits card e ≡ true
   pub soil-ok : soilOk (partAt soilWidth (cellOf e) soil) ≡ true
-  pub row-ok : rowOk (card .delays) (rowOf (cellOf e) rows) ≡ true
+  pub row-ok : rowOk card (rowOf card (cellOf e) rows) ≡ true
 
 pub record VoidTaken (card : Card) (soil : List ℤ) (rows : List ℕ) (b : Outbox) (e : Entry) : Type 0 where
   pub offered : offerOf (replacedOf b .outbox) ≡ Oldest (voidOf e)
@@ -122,7 +122,7 @@ pub record VoidTaken (card : Card) (soil : List ℤ) (rows : List ℕ) (b : Outb
   pub taken : SiteGives card soil rows (voidOf e) (Accepted amounts) after
 
 pub way-out : (card : Card) (soil : List ℤ) (rows : List ℕ) (b : Outbox) → InForm b → (p : Place) (ps : List Place) → heldOf b ≡ p ∷ ps
-    → Good card soil rows (voidOf (p .entry)) → InOrder (lifeOf (rowOf (cellOf (p .entry)) rows)) (nextOf (rowOf (cellOf (p .entry)) rows)) (noticeOf (p .entry))
+    → Good card soil rows (voidOf (p .entry)) → InOrder (lifeOf (rowOf card (cellOf (p .entry)) rows)) (nextOf (rowOf card (cellOf (p .entry)) rows)) (noticeOf (p .entry))
     → VoidTaken card soil rows b (p .entry)
 way-out card soil rows b v p ps holds g o =
     let n = noticeOf (p .entry) in
@@ -159,13 +159,13 @@ module _ (card : Card) (p : ℕ) {s : Moment (siteGateway card p)} (run : Run p 
 
   -- 4. the link never jams: the row's life and next count, sent now, remove the oldest, or the void that `replace` puts in its place is offered next and accepted
   pub never-stuck : (soil : List ℤ) (q : Place) (qs : List Place) → heldOf (s .box) ≡ q ∷ qs → Good card soil (s .row) (voidOf (q .entry))
-      → Reaches (s .box) (lifeOf (rowOf p (s .row))) (nextOf (rowOf p (s .row))) ⊎ VoidTaken card soil (s .row) (s .box) (q .entry)
+      → Reaches (s .box) (lifeOf (rowOf card p (s .row))) (nextOf (rowOf card p (s .row))) ⊎ VoidTaken card soil (s .row) (s .box) (q .entry)
   never-stuck soil q qs holds g = go (link.never-stuck p (siteGateway card p) (orderly card p) run q qs holds)
     where
       its-cell : p ≡ cellOf (q .entry)
       its-cell = sym (link.own-cell p (siteGateway card p) (orderly card p) run) ∙ sym (ap (λ (n : Notice). n .cell) (oldest-is (s .box) in-form q qs holds))
 
-      go : InOrder (lifeOf (rowOf p (s .row))) (nextOf (rowOf p (s .row))) (noticeOf (q .entry)) ⊎ Reaches (s .box) (lifeOf (rowOf p (s .row))) (nextOf (rowOf p (s .row)))
-          → Reaches (s .box) (lifeOf (rowOf p (s .row))) (nextOf (rowOf p (s .row))) ⊎ VoidTaken card soil (s .row) (s .box) (q .entry)
+      go : InOrder (lifeOf (rowOf card p (s .row))) (nextOf (rowOf card p (s .row))) (noticeOf (q .entry)) ⊎ Reaches (s .box) (lifeOf (rowOf card p (s .row))) (nextOf (rowOf card p (s .row)))
+          → Reaches (s .box) (lifeOf (rowOf card p (s .row))) (nextOf (rowOf card p (s .row))) ⊎ VoidTaken card soil (s .row) (s .box) (q .entry)
       go (inr r) = inl r
-      go (inl o) = inr (way-out card soil (s .row) (s .box) in-form q qs holds g (subst (λ (k : ℕ). InOrder (lifeOf (rowOf k (s .row))) (nextOf (rowOf k (s .row))) (noticeOf (q .entry))) its-cell o))
+      go (inl o) = inr (way-out card soil (s .row) (s .box) in-form q qs holds g (subst (λ (k : ℕ). InOrder (lifeOf (rowOf card k (s .row))) (nextOf (rowOf card k (s .row))) (noticeOf (q .entry))) its-cell o))

@@ -29,6 +29,6 @@ siteGateway card p =
       Call = Call;
       brings = λ c. c .entry;
       Gives = Given card p;
-      life = λ rows. lifeOf (rowOf p rows);
-      next = λ rows. nextOf (rowOf p rows);
+      life = λ rows. lifeOf (rowOf card p rows);
+      next = λ rows. nextOf (rowOf card p rows);
     }

@@ -19,10 +19,10 @@ use Rattle.cell.specs.declared.Answer.the-variants.{Accepted, Refused}
 use Rattle.cell.specs.declared.Card.{Card}
 use Rattle.cell.specs.declared.Entry.{Entry}
 use Rattle.cell.specs.declared.Notice.{Notice}
-use Rattle.cell.specs.Ranges.{cellOf}
+use Rattle.cell.specs.Ranges.{rowWidth, cellOf}
 use Rattle.cell.specs.AnswerLaws.{amounts-in, void-amounts}
 use Rattle.site.specs.Rows.{partAt}
-use Rattle.site.specs.Site.{soilWidth, rowWidth, siteAnswer}
+use Rattle.site.specs.Site.{soilWidth, siteAnswer}
 use Rattle.site.specs.SiteLaws.{row-answer}
 use Rattle.cell.specs.Refusals.{refusalNumber, nothing, numberOf, amountsOf}
 use Rattle.cell.specs.CheckLaws.{number-most}
@@ -114,8 +114,8 @@ void-most cell card soil rows n c = go (siteAnswer card soil rows (Entry.Void n)
         omega (arith, b)
     go (Accepted a) e =
         let r = row-answer card soil rows (Entry.Void n) a e in
-        let o = void-amounts card (partAt soilWidth (n .cell) soil) (partAt rowWidth (n .cell) rows) n a r in
-        let w = amounts-in card (partAt soilWidth (n .cell) soil) (partAt rowWidth (n .cell) rows) (Entry.Void n) a r in
+        let o = void-amounts card (partAt soilWidth (n .cell) soil) (partAt (rowWidth card) (n .cell) rows) n a r in
+        let w = amounts-in card (partAt soilWidth (n .cell) soil) (partAt (rowWidth card) (n .cell) rows) (Entry.Void n) a r in
         let b = text-digits answerForm (9 ∷ 0 ∷ 0 ∷ 0 ∷ 0 ∷ 0 ∷ 0 ∷ 0 ∷ 7 ∷ 0 ∷ 7 ∷ 9 ∷ []) (answerVals cell 0 a) refl
         (refl, omega arith, (refl, omega arith, (refl, omega (arith, o .inflow), (refl, omega (arith, o .runoff), (refl, omega (arith, o .etvad), (refl, omega (arith, o .etstor), (refl, omega (arith, o .etsat), (refl, omega (arith, o .drain), (refl, omega (arith, w .release), (refl, omega (arith, o .stored), (rw (o .recharge) refl, rw (o .recharge) (omega (arith, w .release)), (refl, omega (arith, w .left), tt)))))))))))) in
         omega (arith, b)

@@ -63,7 +63,7 @@ array-borrow-prefix-rows : tie.Need-array-borrow-prefix-rows
 array-borrow-prefix-rows c = omega (arith, few (c .before .before .before .before .before .before .before .before .before .before .before .before .args .input .now) (c .before .before .before .before .before .read .result) (c .before .before .before .before .before .read .last .1 .0) (c .before .before .before .before .before .read .ensures .0) (c .before .before .before .before .before .read .ensures .1) (c .before .before .if3 .left))
 
 slice-aggregate-cleared-2 : tie.Need-slice-aggregate-cleared-2
-slice-aggregate-cleared-2 c = sym (length-take-le _ (replicate 8192 0) (omega (arith, few (c .before .before .before .before .before .before .before .before .before .before .before .before .before .args .input .now) (c .before .before .before .before .before .before .read .result) (c .before .before .before .before .before .before .read .last .1 .0) (c .before .before .before .before .before .before .read .ensures .0) (c .before .before .before .before .before .before .read .ensures .1) (c .before .before .before .if3 .left), length-replicate {A = ℕ} 8192 0)))
+slice-aggregate-cleared-2 c = sym (length-take-le _ (replicate 9216 0) (omega (arith, few (c .before .before .before .before .before .before .before .before .before .before .before .before .before .args .input .now) (c .before .before .before .before .before .before .read .result) (c .before .before .before .before .before .before .read .last .1 .0) (c .before .before .before .before .before .before .read .ensures .0) (c .before .before .before .before .before .before .read .ensures .1) (c .before .before .before .if3 .left), length-replicate {A = ℕ} 9216 0)))
 
 sub-cleared : tie.Need-sub-cleared
 sub-cleared c = inside (c .before .before .before .before .before .before .before .before .before .before .before .before .before .args .input .now) (c .before .before .before .before .before .before .read .result) (c .before .before .before .before .before .before .read .last .1 .0) (c .before .before .before .before .before .before .read .ensures .0) (c .before .before .before .before .before .before .read .ensures .1) (c .before .before .before .if3 .left)
