@@ -43,7 +43,7 @@ step {h} {q} {q'} s m v =
 -- what holds of plot p's history and row, and is kept by each step that the row takes, is kept by a run
 module _ (card : Card) (p : ℕ) (I : History → List ℕ → Type 0)
     (keep : (h : History) (soil : List ℤ) (row : List ℕ) (i : Entry) (a : Amounts) → answerOf card soil row i ≡ Accepted a → I h row → I (stepOf card soil row i a ∷ h) (newRow card soil row i)) where
-  one : (h : History) (rows : List ℕ) (c : Call) (answer : Answer) → siteAnswer card (c .soil) rows (c .entry) ≡ answer → I h (rowOf card p rows)
+  pub one : (h : History) (rows : List ℕ) (c : Call) (answer : Answer) → siteAnswer card (c .soil) rows (c .entry) ≡ answer → I h (rowOf card p rows)
       → I (noted card p rows c answer h) (rowOf card p (siteRows card (c .soil) rows (c .entry)))
   one h rows c (Refused why) e v = rw (rows-stay card (c .soil) rows (c .entry) why e) v
   one h rows c (Accepted a) e v = named (eqb (cellOf (c .entry)) p) refl

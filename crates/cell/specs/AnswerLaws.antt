@@ -4,6 +4,7 @@ use mathlib.Core.Bool.{true, false}
 use mathlib.Core.List.{List, [], _∷_, _++_}
 use Prim.Native.Nat.{ℕ, suc, _+_, _≤_}
 use native.Mathlib.Omega.{arith}
+use borrow.Author.Tests.{le-leb}
 use lib.IntN.{ℤ, pos, natAbs, _-ℤ_}
 use lib.ListN.{length, getD, drop, replicate, length-replicate}
 use Rattle.cell.specs.declared.Amounts.{Amounts}
@@ -14,14 +15,14 @@ use Rattle.cell.specs.declared.Entry.{Entry}
 use Rattle.cell.specs.declared.Notice.{Notice}
 use Rattle.cell.specs.declared.Reading.{Reading}
 use Rattle.cell.specs.declared.Refusal.{Refusal}
-use Rattle.cell.specs.declared.Refusal.the-variants.{BadCard}
+use Rattle.cell.specs.declared.Refusal.the-variants.{BadCard, FullSums}
 use Rattle.cell.specs.declared.ranges.Soil.{Soil}
 use Rattle.cell.specs.declared.checks.Verdict.{Verdict}
 use Rattle.cell.specs.declared.checks.Verdict.the-variants.{Fine, Bad}
 use Rattle.cell.specs.Ranges.{cardOk, soilOk, soilOf, queueOf, rowWidth, rowOk, noticeOk, noticeOf, lifeOf, nextOf}
 use Rattle.cell.specs.Depth.{dryDepth}
 use Rattle.cell.specs.Refusals.{unless, fieldsVerdict, verdictOf}
-use Rattle.cell.specs.CheckLaws.{Passed, passed, final-passed, final-fine, verdict-card, checked, InOrder, order-is, order-old, order-gap}
+use Rattle.cell.specs.CheckLaws.{Passed, passed, verdict-fine, verdict-other, final-passed, final-fine, verdict-card, checked, InOrder, order-is, order-old, order-gap}
 use Rattle.cell.specs.Parts.{Checked}
 use Rattle.cell.specs.Queue.{slot, just, total, shifted, spared}
 use Rattle.cell.specs.QueueLaws.{just-none, total-in, total-shifted, total-cleared, slot-empty, slot-cleared, slot-shifted, slot-spared, slot-joined, length-shifted, length-spared}
@@ -29,7 +30,7 @@ use Rattle.cell.specs.Step.{release, runoff, etvad, etstor, etsat, drain
 use Rattle.cell.specs.StepLaws.{given-most, delay-most, given-parts, stored-none, draws-total, draws-length, totals, recharge-parts, row-queue, runoff-given, plants-pet, drain-most, stored-most, release-most, recharge-most, after-in, after-length, queue-in, queue-length, row-life, row-next, row-runoff, row-drain, row-kept, row-length}
 use Rattle.cell.specs.Still.{readingOf}
 use Rattle.cell.specs.StillLaws.{amounts-as, queue-as, row-as, take-as}
-use Rattle.cell.specs.Sums.{runoffAt, drainAt, sumOf, added}
+use Rattle.cell.specs.Sums.{runoffAt, drainAt, sumLimit, sumOf, added}
 
 -- the range of each amount
 pub record AmountsIn (a : Amounts) : Type 0 where
@@ -134,6 +135,15 @@ unfolding amountsBy delayBy drawsBy queueBy
 entry-moves card soil (Entry.Reading r) d h q long = queue-moves card soil r d h q long
 entry-moves card soil (Entry.Void n) d h q long = shift-moves q
 
+-- [6] a reading in its ranges passes 15 where each sum has room for the most
+takes-reading : (card : Card) (soil : Soil) (r : Reading) (d : Depth) → Checked card soil r d → (row : List ℕ) → sumOf runoffAt row + 2000000 ≤ sumLimit → sumOf drainAt row + 20000000000 ≤ sumLimit
+    → sumsTake card soil (Entry.Reading r) d row ≡ true
+unfolding sumsTake
+takes-reading card soil r d h row hr hd =
+    let a : sumOf runoffAt row + runoff card soil r d ≤ sumLimit = omega (arith, runoff-given card soil r d h, given-most card soil r d h) in
+    let b : sumOf drainAt row + drain card soil r d ≤ sumLimit = omega (arith, drain-most card soil r d h) in
+    rw (le-leb _ _ a, le-leb _ _ b)
+
 module _ (card : Card) (soil : List ℤ) (row : List ℕ) (e : Entry) where
   -- refused, the row is as it came
   pub stays : (why : Refusal) → answerOf card soil row e ≡ Refused why → newRow card soil row e ≡ row
@@ -190,6 +200,27 @@ module _ (card : Card) (soil : List ℤ) (row : List ℕ) (e : Entry) where
           let s : Refused b ≡ Accepted a = rw f at g in
           let z : _≡_ {A = ℕ} 0 1 = cc in
           absurd (omega arith)
+
+  -- [6] 15 does not come while each sum has room for the most that a step runs off or drains
+  pub room-enough : sumOf runoffAt row + 2000000 ≤ sumLimit → sumOf drainAt row + 20000000000 ≤ sumLimit → ¬ (answerOf card soil row e ≡ Refused FullSums)
+  unfolding answerOf finalOf judged unless
+  room-enough hr hd g = go (verdictOf card soil row e) refl
+    where
+      go : (v : Verdict) → verdictOf card soil row e ≡ v → ⊥
+      go (Bad why) f =
+          let s : Refused why ≡ Refused FullSums = rw f at g in
+          let k : why ≡ FullSums = cc in
+          verdict-other card soil row e (rw k at f)
+      go (Fine d) f =
+          let p = passed card soil row e d f in
+          let s : Accepted (amountsBy card (soilOf soil) e d (queueOf (card .delays) row)) ≡ Refused FullSums = rw (f, takes-most d p) at g in
+          let z : _≡_ {A = ℕ} 0 1 = cc in
+          omega arith
+        where
+          takes-most : (x : Depth) → Passed card soil row e x → sumsTake card (soilOf soil) e x row ≡ true
+          takes-most x p =
+              let c = checked card soil row e x p in
+              sym (take-as card (soilOf soil) (getD soil 0 (pos 0)) e x (p .fields-fine) c row (p .row-ok)) ∙ takes-reading card (soilOf soil) (readingOf e) x c row hr hd
 
   -- of an accepted call
   module _ (a : Amounts) (g : answerOf card soil row e ≡ Accepted a) where

@@ -85,6 +85,35 @@ module _ (card : Card) (soil : List ℤ) (row : List ℕ) (e : Entry) (d : Depth
   unfolding finalOf judged unless
   final-fine p taken = rw (verdict-fine card soil row e d p, taken)
 
+-- none of the checks up to 10 refuses with 15
+unless-other : (b : Bool) (why : Refusal) (v : Verdict) → ¬ (why ≡ FullSums) → ¬ (v ≡ Bad FullSums) → ¬ (unless b why v ≡ Bad FullSums)
+unfolding unless
+unless-other true why v n m e = m e
+unless-other false why v n m e = n (cc)
+
+sounded-other : (top : ℤ) (h : Head) → ¬ (sounded top h ≡ Bad FullSums)
+unfolding sounded
+sounded-other top Unusable e = let z : _≡_ {A = ℕ} 0 1 = cc in omega arith
+sounded-other top Inactive e = let z : _≡_ {A = ℕ} 0 1 = cc in omega arith
+sounded-other top Dry e = let z : _≡_ {A = ℕ} 0 1 = cc in omega arith
+sounded-other top (Level x) e = let z : _≡_ {A = ℕ} 0 1 = cc in omega arith
+
+fields-other : (top : ℤ) (e : Entry) → ¬ (fieldsVerdict top e ≡ Bad FullSums)
+unfolding fieldsVerdict
+fields-other top (Entry.Reading r) = unless-other (fieldsOk r) BadReading (sounded top (classOf (r .head))) (λ f. let z : _≡_ {A = ℕ} 0 1 = cc in omega arith) (sounded-other top (classOf (r .head)))
+fields-other top (Entry.Void n) =
+    unless-other (noticeOk n) BadReading _ (λ f. let z : _≡_ {A = ℕ} 0 1 = cc in omega arith) (λ f. let z : _≡_ {A = ℕ} 0 1 = cc in omega arith)
+
+pub verdict-other : (card : Card) (soil : List ℤ) (row : List ℕ) (e : Entry) → ¬ (verdictOf card soil row e ≡ Bad FullSums)
+unfolding verdictOf verdictFrom
+verdict-other card soil row e =
+    unless-other _ BadCard _ (λ f. let z : _≡_ {A = ℕ} 0 1 = cc in omega arith)
+    (unless-other _ BadSoil _ (λ f. let z : _≡_ {A = ℕ} 0 1 = cc in omega arith)
+    (unless-other _ BadRow _ (λ f. let z : _≡_ {A = ℕ} 0 1 = cc in omega arith)
+    (unless-other _ Old _ (λ f. let z : _≡_ {A = ℕ} 0 1 = cc in omega arith)
+    (unless-other _ Gap _ (λ f. let z : _≡_ {A = ℕ} 0 1 = cc in omega arith)
+    (fields-other (getD soil 0 (pos 0)) e)))))
+
 -- check 1 comes first
 pub verdict-card : (card : Card) (soil : List ℤ) (row : List ℕ) (e : Entry) → cardOk card ≡ false → verdictOf card soil row e ≡ Bad BadCard
 unfolding verdictOf verdictFrom unless

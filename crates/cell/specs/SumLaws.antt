@@ -6,7 +6,7 @@ use native.Mathlib.Omega.{arith}
 use mathlib.Core.Bool.{true, and-eq-true-iff}
 use borrow.Author.Tests.{eq-eqb, eqb-true}
 use lib.Dec.{eqb}
-use lib.ListN.{length, getD, take, drop, set, length-set}
+use lib.ListN.{length, getD, take, drop, set, length-set, List·getD-eq-default}
 use lib.Seq.{getD-set-same, getD-set-other, take-set-le, take-take, getD-take}
 use Rattle.cell.specs.Ranges.{lifeOf, nextOf, slotsOf, queueOf, formOk}
 use Rattle.cell.specs.RangeLaws.{form-in, form-ok}
@@ -138,6 +138,10 @@ module _ (row : List ℕ) where
 pub no-sum : (at : ℕ) (row : List ℕ) → getD row at 0 ≡ 0 → getD row (at + 1) 0 ≡ 0 → sumOf at row ≡ 0
 unfolding sumOf
 no-sum at row e f = omega arith
+
+-- a row that ends before a sum holds nothing there
+pub short-sum : (at : ℕ) (row : List ℕ) → length row ≤ at → sumOf at row ≡ 0
+short-sum at row l = no-sum at row (List·getD-eq-default row 0 l) (List·getD-eq-default row 0 (omega arith))
 
 pub none-held : (row : List ℕ) → sumOf runoffAt row ≡ 0 → sumOf drainAt row ≡ 0 → noSums row ≡ true
 unfolding noSums

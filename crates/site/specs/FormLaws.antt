@@ -21,7 +21,7 @@ use Rattle.site.specs.RowsLaws.{put-back, put-same, put-other, put-lengt
 use Rattle.site.specs.Site.{rowsFit}
 use Rattle.site.specs.Moves.{recut, recutAll, allRows, Cut, moveNumber}
 use Rattle.site.specs.MoveLaws.{recut-first, recut-zero, all-length, all-part, all-told, all-from, back-after-over, Movable, move-passed, move-fine}
-use Rattle.site.specs.Forms.{sumsWidth, growNumber, grownRows, shrinkNumber, shrunkRows, collectingNumber, collectedRows, SumsGive}
+use Rattle.site.specs.Forms.{sumsWidth, growNumber, grownRows, GrowGives, shrinkNumber, shrunkRows, ShrinkGives, collectingNumber, collectedRows, SumsGive}
 
 -- the two cuts
 pub over : Cut frontWidth runoffAt 0 sumNumbers
@@ -37,6 +37,9 @@ module _ (card : Card) (old new : List ℕ) (z : growNumber card old new ≡ 0) 
 
   pub grow-card : cardOk card ≡ true
   grow-card = passed .card-ok
+
+  pub grow-long : length old ≡ frontWidth * card .cells
+  grow-long = passed .from-long
 
   pub grown-row : (p : ℕ) → p < card .cells → partAt sumsWidth p (grownRows card old) ≡ recut runoffAt 0 sumNumbers (partAt frontWidth p old)
   grown-row p h = all-part frontWidth runoffAt 0 sumNumbers over old (card .cells) p h (omega (arith, passed .from-long))
@@ -97,6 +100,9 @@ module _ (card : Card) (new old : List ℕ) (z : shrinkNumber card new old ≡ 0
   pub shrink-card : cardOk card ≡ true
   shrink-card = went .card-ok
 
+  pub shrink-long : length new ≡ sumsWidth * card .cells
+  shrink-long = went .from-long
+
   -- every row's sums were 0
   pub shrunk-empty : (p : ℕ) → p < card .cells → (sumOf runoffAt (partAt sumsWidth p new) ≡ 0) × (sumOf drainAt (partAt sumsWidth p new) ≡ 0)
   shrunk-empty p h = none-told (partAt sumsWidth p new) (all-told noSums (card .cells) sumsWidth new (went .sums-ok) p h)
@@ -112,6 +118,14 @@ module _ (card : Card) (new old : List ℕ) (z : shrinkNumber card new old ≡ 0
 
   pub shrunk-length : length (shrunkRows card new) ≡ frontWidth * card .cells
   shrunk-length = all-length sumsWidth runoffAt sumNumbers 0 back new (card .cells) (omega (arith, went .from-long))
+
+-- what `grow` wrote, `shrink` gives back: the number is 0, and the rows are the very rows, whatever stood in the slice
+pub back-again : (card : Card) {old new grown to back : List ℕ} {n : ℕ} → GrowGives card old new 0 grown → length to ≡ frontWidth * card .cells → ShrinkGives card grown to n back → (n ≡ 0) × (back ≡ old)
+back-again card {old} {new} {grown} {to} {back} {n} g l s =
+    let z : growNumber card old new ≡ 0 = sym (g .number-is) in
+    let e : grown ≡ grownRows card old = g .rows-are ∙ rw z in
+    let t : ShrinkGives card (grownRows card old) to n back = rw e at s in
+    (t .number-is ∙ shrinks-back card old new z to l, t .rows-are ∙ very-rows card old new z to l)
 
 -- ---- collecting, by its checks
 module _ (card : Card) (rows : List ℕ) (cell : ℕ) where
@@ -170,6 +184,9 @@ module _ (card : Card) (rows : List ℕ) (cell : ℕ) where
 
     pub collect-card : cardOk card ≡ true
     collect-card = asked .card-ok
+
+    pub collect-long : length rows ≡ rowWidth card * card .cells
+    collect-long = asked .rows-long
 
     has-room : rowWidth card * cell + rowWidth card ≤ length rows
     has-room = room (rowWidth card) cell (card .cells) rows (asked .rows-long) (asked .below)

@@ -8,7 +8,7 @@ use native.Mathlib.Omega.{arith}
 use borrow.Author.Tests.{ltb-true, eqb-true, ne-eqb}
 use lib.Dec.{eqb}
 use lib.IntN.{ℤ}
-use lib.ListN.{length, getD, take, drop, replicate}
+use lib.ListN.{length, getD, take, drop, replicate, length-replicate}
 use Rattle.cell.specs.declared.Amounts.{Amounts}
 use Rattle.cell.specs.declared.Answer.{Answer}
 use Rattle.cell.specs.declared.Answer.the-variants.{Accepted, Refused}
@@ -17,12 +17,12 @@ use Rattle.cell.specs.declared.Entry.{Entry}
 use Rattle.cell.specs.declared.Notice.{Notice}
 use Rattle.cell.specs.declared.Reading.{Reading}
 use Rattle.cell.specs.declared.Refusal.{Refusal}
-use Rattle.cell.specs.declared.Refusal.the-variants.{BadCard, BadLengths, BadCell}
+use Rattle.cell.specs.declared.Refusal.the-variants.{BadCard, BadLengths, BadCell, FullSums}
 use Rattle.cell.specs.Ranges.{cardOk, rowWidth, noticeOk, noticed, noticeOf, cellOf}
 use Rattle.cell.specs.Step.{answerOf, newRow}
 use Rattle.cell.specs.Refusals.{refusalNumber, firstFailing, fieldChecks, numberOf, nothing, amountsOf}
 use Rattle.cell.specs.CheckLaws.{row-number, refusal-in}
-use Rattle.cell.specs.AnswerLaws.{stays, bad-card, length-after}
+use Rattle.cell.specs.AnswerLaws.{step-taken, stays, bad-card, length-after}
 use Rattle.site.specs.Rows.{partAt, putAt}
 use Rattle.site.specs.RowsLaws.{put-back, put-same, put-other, put-length, put-outside, room, part-zeros}
 use Rattle.site.specs.Site.{soilWidth, soilFits, rowsFit, cellFits, checksOf, refuse, siteAnswer, rowsBy, siteRows, SiteGives, clearNumber, clearRows, ClearGives}
@@ -93,6 +93,32 @@ module _ (card : Card) (soil : List ℤ) (rows : List ℕ) (i : Entry) where
       go (Accepted a) g = rw (reached e f, g)
       go (Refused why) g = rw (reached e f, g) (sym (rw (stays card soilPart rowPart i why g) (put-back (rowWidth card) (cellOf i) rows)))
 
+  -- [6] 15 is the named row's: the checks before it are passed
+  pub full-card : siteAnswer card soil rows i ≡ Refused FullSums → cardOk card ≡ true
+  unfolding refuse
+  full-card e = go (cardOk card) refl
+    where
+      go : (a : Bool) → cardOk card ≡ a → a ≡ true
+      go true p = refl
+      go false p =
+          let b : Refused BadCard ≡ Refused FullSums = by-checks p refl refl ∙ e in
+          let z : _≡_ {A = ℕ} 0 1 = cc in
+          absurd (omega arith)
+
+  pub full-reached : siteAnswer card soil rows i ≡ Refused FullSums → (length rows ≡ rowWidth card * card .cells) × (answerOf card soilPart rowPart i ≡ Refused FullSums)
+  unfolding rowsFit
+  full-reached e = go (soilFits card soil && rowsFit card rows) refl (cellFits card i) refl
+    where
+      never : (a : Bool) (why : Refusal) → ¬ (why ≡ FullSums) → ¬ (Refused (cond a why BadCard) ≡ Refused FullSums)
+      never true why n f = n (cc)
+      never false why n f = let z : _≡_ {A = ℕ} 0 1 = cc in omega arith
+
+      go : (b : Bool) → (soilFits card soil && rowsFit card rows) ≡ b → (c : Bool) → cellFits card i ≡ c → (length rows ≡ rowWidth card * card .cells) × (answerOf card soilPart rowPart i ≡ Refused FullSums)
+      go false q c s = absurd (never (cardOk card) BadLengths (λ f. let z : _≡_ {A = ℕ} 0 1 = cc in omega arith) (sym (lengths-bad q) ∙ e))
+      go true q false s = absurd (never (cardOk card) BadCell (λ f. let z : _≡_ {A = ℕ} 0 1 = cc in omega arith) (sym (cell-bad q s) ∙ e))
+      go true q true s =
+          (eqb-true (length rows) (rowWidth card * card .cells) (and-eq-true-iff (soilFits card soil) (rowsFit card rows) .0 q .1), sym (reached q s) ∙ e)
+
   -- ---- an accepted step: what was checked, and what it left
   module _ (a : Amounts) (e : siteAnswer card soil rows i ≡ Accepted a) where
     no-refusal : (why : Refusal) → siteAnswer card soil rows i ≡ Refused why → ⊥
@@ -114,6 +140,9 @@ module _ (card : Card) (soil : List ℤ) (rows : List ℕ) (i : Entry) where
 
     pub row-answer : answerOf card soilPart rowPart i ≡ Accepted a
     row-answer = sym (reached lengths-were cell-was) ∙ e
+
+    pub card-was : cardOk card ≡ true
+    card-was = step-taken card soilPart rowPart i a row-answer .checks .card-ok
 
     pub cell-below : cellOf i < card .cells
     unfolding cellFits
@@ -296,7 +325,17 @@ clear-most card rows = go (cardOk card) (rowsFit card rows)
     go true false = omega arith
     go true true = omega arith
 
--- ---- a cleared site: each cell's row is zeros
+-- ---- a cleared site: its card and its length have passed, and each cell's row is zeros
+pub clear-passed : (card : Card) (rows : List ℕ) → clearNumber card rows ≡ 0 → (cardOk card ≡ true) × (length (clearRows card rows) ≡ rowWidth card * card .cells)
+unfolding clearNumber clearRows rowsFit
+clear-passed card rows z = go (cardOk card) refl (eqb (length rows) (rowWidth card * card .cells)) refl z
+  where
+    go : (a : Bool) → cardOk card ≡ a → (b : Bool) → eqb (length rows) (rowWidth card * card .cells) ≡ b → _≡_ {A = ℕ} (cond a (cond b 0 2) 1) 0
+        → (cardOk card ≡ true) × (length (cond (eqb (cond a (cond b 0 2) 1) 0) (replicate (length rows) 0) rows) ≡ rowWidth card * card .cells)
+    go false p b q f = absurd (omega arith)
+    go true p false q f = absurd (omega arith)
+    go true p true q f = (p, length-replicate {A = ℕ} (length rows) 0 ∙ eqb-true (length rows) (rowWidth card * card .cells) q)
+
 pub cleared-part : (card : Card) (rows : List ℕ) → clearNumber card rows ≡ 0 → (p : ℕ) → p < card .cells → partAt (rowWidth card) p (clearRows card rows) ≡ replicate (rowWidth card) 0
 unfolding clearNumber clearRows rowsFit
 cleared-part card rows z p h = go (cardOk card) (eqb (length rows) (rowWidth card * card .cells)) refl z
