@@ -17,7 +17,7 @@ fn two(cells: u32, delays: u32, first: u32, second: u32) {
         share: 20,
     };
     let soil = plots::soil();
-    let mut rows = [0u32; 32];
+    let mut rows = [0u32; 36];
     show::step(card, &soil, &mut rows, plots::reading());
 }
 
@@ -35,7 +35,7 @@ fn many(delays: u32) {
         share: 20,
     };
     let soil = plots::soil();
-    let mut rows = [0u32; 32];
+    let mut rows = [0u32; 36];
     rows[2] = 5;
     rows[31] = 2000000;
     show::step(card, &soil, &mut rows, plots::reading());

@@ -14,7 +14,7 @@ fn plot(top: i64) {
         share: 20,
     };
     let soil = [top, 1500000, 200, 100000, 80];
-    let mut rows = [0u32; 32];
+    let mut rows = [0u32; 36];
     show::step(card, &soil, &mut rows, plots::reading());
 }
 

@@ -13,7 +13,7 @@ fn waiting(card: Card, slot: usize, water: u32)
         &[slot as u64, card.delays as u64, water as u64],
     );
     let soil = plots::soil();
-    let mut rows = [0u32; 32];
+    let mut rows = [0u32; 36];
     rows[slot + 1] = water;
     show::step(card, &soil, &mut rows, plots::reading());
 }
@@ -25,7 +25,7 @@ fn turn(row_life: u32, next: u32, life: u32, count: u32) {
         &[row_life as u64, next as u64, life as u64, count as u64],
     );
     let soil = plots::soil();
-    let mut rows = [0u32; 32];
+    let mut rows = [0u32; 36];
     rows[0] = row_life;
     rows[1] = next;
     let mut r = plots::reading();

@@ -16,7 +16,7 @@ fn card(share: u32) -> Card {
 fn storm(share: u32, rain: u32) {
     show::form(b"share=# rain=#", &[share as u64, rain as u64]);
     let soil = plots::soil();
-    let mut rows = [0u32; 32];
+    let mut rows = [0u32; 36];
     let mut r = plots::reading();
     r.rain = rain;
     show::step(card(share), &soil, &mut rows, r);
@@ -26,7 +26,7 @@ fn storm(share: u32, rain: u32) {
 fn stored(share: u32) {
     show::form(b"share=# slot 1 at 7, void", &[share as u64]);
     let soil = plots::soil();
-    let mut rows = [0u32; 32];
+    let mut rows = [0u32; 36];
     rows[2] = 7;
     let first = Notice {
         cell: 0,

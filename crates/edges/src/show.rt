@@ -71,11 +71,15 @@ fn slots(row: &[u32], end: usize)
     }
 }
 
-// How many of so many row numbers are in use: life, next count and a slot for each delay.
+// How many of so many row numbers are in use: life, next count and a slot for each delay, 30 slots at the most.
 fn in_use(len: usize, delays: u32) -> usize
     ensures { λ r. ⌜ r ≤ len ⌝ }
 {
-    let used = 2 + delays as usize;
+    let used = if delays <= 30 {
+        2 + delays as usize
+    } else {
+        32
+    };
     if len < used { len } else { used }
 }
 
@@ -107,7 +111,7 @@ pub fn step(card: Card, soil: &[i64], rows: &mut [u32], r: Reading) {
 
 // One reading, given to a plot of these soil numbers on the example's card, whose row holds zeros.
 pub fn plot(soil: &[i64], r: Reading) {
-    let mut rows = [0u32; 32];
+    let mut rows = [0u32; 36];
     step(plots::card(), soil, &mut rows, r);
 }
 

@@ -23,7 +23,7 @@ fn over(cells: u32, cell: u32, soil: &[i64], rows: &mut [u32]) {
 // The same over so many of the soil and row numbers of two plots like the example's.
 fn lent(cells: u32, cell: u32, soils: usize, numbers: usize)
     requires { ⌜ soils ≤ 11 ⌝ }
-    requires { ⌜ numbers ≤ 65 ⌝ }
+    requires { ⌜ numbers ≤ 73 ⌝ }
 {
     let soil = [
         10000000,
@@ -38,7 +38,7 @@ fn lent(cells: u32, cell: u32, soils: usize, numbers: usize)
         80,
         80,
     ];
-    let mut rows = [0u32; 65];
+    let mut rows = [0u32; 73];
     over(cells, cell, &soil[..soils], &mut rows[..numbers]);
 }
 
@@ -61,26 +61,26 @@ fn beside(cell: u32, top: i64, water: u32) {
         100000,
         80,
     ];
-    let mut rows = [0u32; 64];
-    rows[34] = water;
+    let mut rows = [0u32; 72];
+    rows[38] = water;
     let mut r = plots::reading();
     r.cell = cell;
     show::step(plots::card_of(2, 2), &soil, &mut rows, r);
-    show::row(&rows[32..], 2);
+    show::row(&rows[36..], 2);
 }
 
 // A dry reading for this cell of 256 plots whose soil numbers are all 1; the last plot's row is printed.
 fn largest(cell: u32) {
     show::form(b"cells=256 cell=#: ", &[cell as u64]);
     let soil = [1i64; 1280];
-    let mut rows = [0u32; 8192];
+    let mut rows = [0u32; 9216];
     let mut r = plots::reading_at(0xf149_f2ca);
     r.cell = cell;
     show::answer(
         cell,
         site::step(plots::card_of(256, 2), &soil, &mut rows, Entry::Reading(r)),
     );
-    show::row(&rows[8160..], 2);
+    show::row(&rows[9180..], 2);
 }
 
 // Clears these rows under so many delays, and prints the first.
@@ -95,27 +95,27 @@ fn cleared(delays: u32, rows: &mut [u32]) {
 
 // Clears so many row numbers under so many delays.
 fn clear(delays: u32, numbers: usize)
-    requires { ⌜ numbers ≤ 33 ⌝ }
+    requires { ⌜ numbers ≤ 37 ⌝ }
 {
-    let mut rows = [7u32; 33];
+    let mut rows = [7u32; 37];
     cleared(delays, &mut rows[..numbers]);
 }
 
 pub fn cases() {
     // One number too few, one too many, and as many as the plots have.
-    lent(1, 0, 4, 32);
-    lent(1, 0, 6, 32);
-    lent(1, 0, 5, 31);
-    lent(1, 0, 5, 33);
-    lent(1, 0, 5, 32);
-    lent(2, 0, 9, 64);
-    lent(2, 0, 11, 64);
-    lent(2, 0, 10, 63);
-    lent(2, 0, 10, 65);
-    lent(2, 0, 10, 64);
+    lent(1, 0, 4, 36);
+    lent(1, 0, 6, 36);
+    lent(1, 0, 5, 35);
+    lent(1, 0, 5, 37);
+    lent(1, 0, 5, 36);
+    lent(2, 0, 9, 72);
+    lent(2, 0, 11, 72);
+    lent(2, 0, 10, 71);
+    lent(2, 0, 10, 73);
+    lent(2, 0, 10, 72);
     // The cell number at the number of cells, and below it.
-    lent(1, 1, 5, 32);
-    lent(2, 2, 10, 64);
+    lent(1, 1, 5, 36);
+    lent(2, 2, 10, 72);
     beside(1, 10000000, 0);
     // A soil number or a row out of range: the named plot's, and another plot's.
     beside(1, 10000000000, 0);
@@ -127,9 +127,9 @@ pub fn cases() {
     largest(255);
     largest(256);
     // Clearing; the check of the card comes first.
-    clear(31, 32);
-    clear(31, 33);
-    clear(2, 31);
-    clear(2, 33);
-    clear(2, 32);
+    clear(31, 36);
+    clear(31, 37);
+    clear(2, 35);
+    clear(2, 37);
+    clear(2, 36);
 }

@@ -35,7 +35,7 @@ fn waiting(card: Card, first_slot: u32, second_slot: u32) {
         &[card.delays as u64, first_slot as u64, second_slot as u64],
     );
     let soil = plots::soil();
-    let mut rows = [0u32; 32];
+    let mut rows = [0u32; 36];
     rows[2] = first_slot;
     rows[3] = second_slot;
     first(card, &soil, &mut rows);
@@ -52,7 +52,7 @@ fn deep(first_slot: u32) {
     };
     show::form(b"30 delays, slot 1 at #, ", &[first_slot as u64]);
     let soil = plots::soil();
-    let mut rows = [0u32; 32];
+    let mut rows = [0u32; 36];
     rows[2] = first_slot;
     rows[31] = 2000000;
     first(card, &soil, &mut rows);
@@ -62,7 +62,7 @@ fn deep(first_slot: u32) {
 fn turn(row_life: u32, next: u32, life: u32, count: u32) {
     show::form(b"row (#,#), ", &[row_life as u64, next as u64]);
     let soil = plots::soil();
-    let mut rows = [0u32; 32];
+    let mut rows = [0u32; 36];
     rows[0] = row_life;
     rows[1] = next;
     rows[2] = 700;
@@ -96,7 +96,7 @@ fn turns() {
 // Number 1: a card of no plots.
 fn no_plots() {
     let soil = plots::soil();
-    let mut rows = [0u32; 32];
+    let mut rows = [0u32; 36];
     io::write_all(1, b"no plots, ");
     first(plots::card_of(0, 2), &soil, &mut rows);
 }
@@ -104,22 +104,22 @@ fn no_plots() {
 // Number 2: a soil number or a row number is lacking.
 fn short_soil() {
     let soil = [10000000i64, 1500000, 200, 100000];
-    let mut rows = [0u32; 32];
+    let mut rows = [0u32; 36];
     io::write_all(1, b"4 soil numbers, ");
     first(plots::card(), &soil, &mut rows);
 }
 
 fn short_rows() {
     let soil = plots::soil();
-    let mut rows = [0u32; 31];
-    io::write_all(1, b"31 row numbers, ");
+    let mut rows = [0u32; 35];
+    io::write_all(1, b"35 row numbers, ");
     first(plots::card(), &soil, &mut rows);
 }
 
 // Number 3: a plot too many.
 fn another_plot() {
     let soil = plots::soil();
-    let mut rows = [0u32; 32];
+    let mut rows = [0u32; 36];
     given(
         plots::card(),
         &soil,
@@ -135,7 +135,7 @@ fn another_plot() {
 // Number 4: an etdepth of 0.
 fn no_etdepth() {
     let soil = [10000000i64, 0, 200, 100000, 80];
-    let mut rows = [0u32; 32];
+    let mut rows = [0u32; 36];
     io::write_all(1, b"etdepth 0, ");
     first(plots::card(), &soil, &mut rows);
 }
@@ -144,7 +144,7 @@ fn no_etdepth() {
 fn frozen() {
     let card = plots::card();
     let soil = plots::soil();
-    let mut rows = [0u32; 32];
+    let mut rows = [0u32; 36];
     let mut broken = plots::reading();
     broken.rain = 1000001;
     let mut later = plots::reading();

@@ -1,7 +1,7 @@
 -- What each call gives, for every input. A record that has not its count of numbers is refused with 255, and nothing is changed. Definitions only.
 use Prim.Native.Nat.{ℕ}
 use mathlib.Core.Path.{_≡_}
-use mathlib.Core.Bool.{Bool, cond, _&&_}
+use mathlib.Core.Bool.{Bool, cond, _&&_, _||_}
 use mathlib.Core.List.{List, [], _∷_}
 use lib.Dec.{eqb, leb}
 use lib.IntN.{ℤ}
@@ -10,7 +10,7 @@ use Rattle.cell.specs.declared.Answer.{Answer}
 use Rattle.cell.specs.declared.Answer.the-variants.{Accepted}
 use Rattle.cell.specs.declared.Card.{Card}
 use Rattle.cell.specs.declared.Entry.{Entry}
-use Rattle.cell.specs.declared.Refusal.the-variants.{InactiveHead}
+use Rattle.cell.specs.declared.Refusal.the-variants.{InactiveHead, FullSums}
 use Rattle.cell.specs.Refusals.{refusalNumber, notAddable, numberOf, amountsOf}
 use Rattle.site.specs.declared.Added.{Added}
 use Rattle.site.specs.Site.{siteAnswer, siteRows, clearNumber, clearRows}
@@ -116,9 +116,9 @@ WritesReading reading buf got = WritesText (wide reading readingWidth && wide go
 abbrev pub WritesVoid : List ℕ → List ℕ → List ℕ → ℕ → List ℕ → List ℕ → Type 0
 WritesVoid notice buf got = WritesText (wide notice noticeWidth && wide got gotWidth) (voidChecks (noticeFrom notice) buf) (voidText (noticeFrom notice)) buf got
 
--- by number and signs a host's number and amounts can be an answer of a step: accepted, and no amount negative but recharge; or refused by one of its checks, with ten zeros
+-- by number and signs a host's number and amounts can be an answer of a step: accepted, and no amount negative but recharge; or refused by one of its checks, 1 to 10 or 15 [6], with ten zeros
 unfoldable pub isAnswer : ℕ → List ℤ → Bool
-isAnswer number amounts = cond (eqb number 0) (signsFrom 0 amountsRecharge amounts) (leb number (refusalNumber InactiveHead) && zeros amounts)
+isAnswer number amounts = cond (eqb number 0) (signsFrom 0 amountsRecharge amounts) ((leb number (refusalNumber InactiveHead) || eqb number (refusalNumber FullSums)) && zeros amounts)
 
 abbrev pub WritesAnswer : ℕ → ℕ → List ℤ → List ℕ → List ℕ → ℕ → List ℕ → List ℕ → Type 0
 WritesAnswer cell number amounts buf got =

@@ -1,5 +1,5 @@
 -- `gateway::records::is_answer` meets its contract. Assumes nothing.
-use borrow.Author.Tests.{eq-eqb, ne-eqb, le-leb, lt-leb}
+use borrow.Author.Tests.{eq-eqb, ne-eqb}
 use Rattle.gateway.specs.Calls.{isAnswer}
 use borrow.Author.Needs.{needs}
 use Rattle.gateway.proofs.records.is_answer.Statement.{statement}
@@ -12,17 +12,12 @@ returns : tie.Need-returns
 unfolding isAnswer
 returns c = rw (eq-eqb (c .before .before .args .number) 0 (c .before .if1 .taken)) (c .signs .ensures)
 
-returns-2 : tie.Need-returns-2
-unfolding isAnswer
-returns-2 c = rw (ne-eqb (c .before .before .args .number) 0 (c .before .if1 .left), lt-leb (c .before .before .args .number) 10 (c .if2 .taken))
-
 all-zero-requires : tie.Need-all-zero-requires
 all-zero-requires c κs = search needs
 
-returns-3 : tie.Need-returns-3
+returns-2 : tie.Need-returns-2
 unfolding isAnswer
-returns-3 c =
-    rw (ne-eqb (c .before .before .before .args .number) 0 (c .before .before .if1 .left), le-leb (c .before .before .before .args .number) 10 (c .before .if2 .left)) (c .all-zero .ensures)
+returns-2 c = rw (ne-eqb (c .before .before .args .number) 0 (c .before .if1 .left), c .all-zero .ensures)
 
 pub is-answer-spec : {M : Type 1} → statement M
-is-answer-spec = tie.close (tie.spec signs-requires returns returns-2 all-zero-requires returns-3)
+is-answer-spec = tie.close (tie.spec signs-requires returns all-zero-requires returns-2)
