@@ -11,6 +11,12 @@ use Rattle.gateway.proofs.waterbook_void.Kinds as void
 use Rattle.gateway.proofs.waterbook_void.Reads as void-reads
 use Rattle.gateway.proofs.waterbook_clear.Kinds as clear
 use Rattle.gateway.proofs.waterbook_clear.Reads as clear-reads
+use Rattle.gateway.proofs.waterbook_collect.Kinds as collect
+use Rattle.gateway.proofs.waterbook_collect.Reads as collect-reads
+use Rattle.gateway.proofs.waterbook_grow.Kinds as grow
+use Rattle.gateway.proofs.waterbook_grow.Reads as grow-reads
+use Rattle.gateway.proofs.waterbook_shrink.Kinds as shrink
+use Rattle.gateway.proofs.waterbook_shrink.Reads as shrink-reads
 use Rattle.gateway.proofs.waterbook_add.Kinds as add
 use Rattle.gateway.proofs.waterbook_add.Reads as add-reads
 use Rattle.gateway.proofs.waterbook_read_card.Kinds as read-card
@@ -43,6 +49,18 @@ void-settled κs a r r' x x' p p' = (p .number-is ∙ sym (p' .number-is), p .ro
 pub clear-settled : (κs : Lfts 2) (a : Dens κs clear.ps) (r r' : resT clear.r κs .Denot) (x x' : AtExit (endedOf 2 clear.ps clear.r) κs) → clear-reads.Post κs a r x → clear-reads.Post κs a r' x'
     → (r ≡ r') × (now (x .1 .0) ≡ now (x' .1 .0))
 clear-settled κs a r r' x x' p p' = (p .number-is ∙ sym (p' .number-is), p .rows-are ∙ sym (p' .rows-are))
+
+pub collect-settled : (κs : Lfts 3) (a : Dens κs collect.ps) (r r' : resT collect.r κs .Denot) (x x' : AtExit (endedOf 3 collect.ps collect.r) κs) → collect-reads.Post κs a r x → collect-reads.Post κs a r' x'
+    → (r ≡ r') × (now (x .1 .0) ≡ now (x' .1 .0)) × (now (x .1 .1 .1 .0) ≡ now (x' .1 .1 .1 .0))
+collect-settled κs a r r' x x' p p' = (p .number-is ∙ sym (p' .number-is), p .rows-are ∙ sym (p' .rows-are), p .sums-are ∙ sym (p' .sums-are))
+
+pub grow-settled : (κs : Lfts 3) (a : Dens κs grow.ps) (r r' : resT grow.r κs .Denot) (x x' : AtExit (endedOf 3 grow.ps grow.r) κs) → grow-reads.Post κs a r x → grow-reads.Post κs a r' x'
+    → (r ≡ r') × (now (x .1 .1 .0) ≡ now (x' .1 .1 .0))
+grow-settled κs a r r' x x' p p' = (p .number-is ∙ sym (p' .number-is), p .rows-are ∙ sym (p' .rows-are))
+
+pub shrink-settled : (κs : Lfts 3) (a : Dens κs shrink.ps) (r r' : resT shrink.r κs .Denot) (x x' : AtExit (endedOf 3 shrink.ps shrink.r) κs) → shrink-reads.Post κs a r x → shrink-reads.Post κs a r' x'
+    → (r ≡ r') × (now (x .1 .1 .0) ≡ now (x' .1 .1 .0))
+shrink-settled κs a r r' x x' p p' = (p .number-is ∙ sym (p' .number-is), p .rows-are ∙ sym (p' .rows-are))
 
 pub add-settled : (κs : Lfts 2) (a : Dens κs add.ps) (r r' : resT add.r κs .Denot) (x x' : AtExit (endedOf 2 add.ps add.r) κs) → add-reads.Post κs a r x → add-reads.Post κs a r' x'
     → (r ≡ r') × (now (x .0) ≡ now (x' .0))

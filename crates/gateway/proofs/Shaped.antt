@@ -6,6 +6,7 @@ use Prim.Native.Nat.{ℕ}
 use lib.IntN.{ℤ}
 use borrow.Author.Tests.{eq-eqb, ne-eqb}
 use Rattle.cell.specs.declared.Answer.{Answer}
+use Rattle.cell.specs.declared.Collected.{Collected}
 use Rattle.cell.specs.Refusals.{notAddable, malformed, numberOf, amountsOf}
 use Rattle.site.specs.declared.Added.{Added}
 use Rattle.text.specs.declared.Written.{Written}
@@ -13,8 +14,8 @@ use Rattle.text.specs.declared.card.CardRead.{CardRead}
 use Rattle.text.specs.Written.{Writes}
 use Rattle.text.specs.Printed.{lineChecks}
 use Rattle.shapes.specs.Shapes.{illShaped}
-use Rattle.gateway.specs.Shapes.{cardNumbers, amountNumbers, sheetNumbers}
-use Rattle.gateway.specs.Calls.{GivesAnswer, GivesRows, GivesSheet, GivesCard, GivesLine, WritesText}
+use Rattle.gateway.specs.Shapes.{cardNumbers, collectedNumbers, amountNumbers, sheetNumbers}
+use Rattle.gateway.specs.Calls.{GivesAnswer, GivesRows, GivesSums, GivesSheet, GivesCard, GivesLine, WritesText}
 
 -- ---- a step
 module _ {shaped : Bool} {answer : Answer} {after rows : List ℕ} {amounts : List ℤ} where
@@ -30,13 +31,21 @@ module _ {shaped : Bool} {answer : Answer} {after rows : List ℕ} {amounts : Li
       → GivesAnswer shaped answer after rows amounts number rows' amounts'
   answer-shaped s g = answer-given s (g .number-is) (g .rows-are) (g .amounts-are)
 
--- ---- clearing
-module _ {shaped : Bool} {cleared : ℕ} {after rows : List ℕ} where
-  pub rows-ill : shaped ≡ false → GivesRows shaped cleared after rows illShaped rows
+-- ---- clearing and the moves
+module _ {shaped : Bool} {says : ℕ} {after rows : List ℕ} where
+  pub rows-ill : shaped ≡ false → GivesRows shaped says after rows illShaped rows
   rows-ill s = record { number-is = rw s; rows-are = rw s }
 
-  pub rows-given : {number : ℕ} {rows' : List ℕ} → shaped ≡ true → number ≡ cleared → rows' ≡ after → GivesRows shaped cleared after rows number rows'
+  pub rows-given : {number : ℕ} {rows' : List ℕ} → shaped ≡ true → number ≡ says → rows' ≡ after → GivesRows shaped says after rows number rows'
   rows-given s n r = record { number-is = rw s n; rows-are = rw s r }
+
+-- ---- collecting
+module _ {shaped : Bool} {got : Collected} {after rows sums : List ℕ} where
+  pub sums-ill : shaped ≡ false → GivesSums shaped got after rows sums illShaped rows sums
+  sums-ill s = record { number-is = rw s; rows-are = rw s; sums-are = rw s }
+
+  pub sums-given : {by : Collected} {rows' sums' : List ℕ} → shaped ≡ true → by ≡ got → rows' ≡ after → sums' ≡ collectedNumbers by → GivesSums shaped got after rows sums (by .number) rows' sums'
+  sums-given s e r p = record { number-is = rw s (ap (λ (x : Collected). x .number) e); rows-are = rw s r; sums-are = rw s (p ∙ ap collectedNumbers e) }
 
 -- ---- adding: turned away here, or by the site, or added
 module _ {shaped : Bool} {added : Added} {sheet : List ℤ} where

@@ -9,11 +9,16 @@ use lib.ListN.{length}
 use Rattle.cell.specs.declared.Answer.{Answer}
 use Rattle.cell.specs.declared.Answer.the-variants.{Accepted}
 use Rattle.cell.specs.declared.Card.{Card}
+use Rattle.cell.specs.declared.Collected.{Collected}
 use Rattle.cell.specs.declared.Entry.{Entry}
 use Rattle.cell.specs.declared.Refusal.the-variants.{InactiveHead, FullSums}
 use Rattle.cell.specs.Refusals.{refusalNumber, notAddable, numberOf, amountsOf}
+use Rattle.cell.specs.Ranges.{rowWidth}
+use Rattle.cell.specs.Collect.{collectedBy, listBy}
 use Rattle.site.specs.declared.Added.{Added}
+use Rattle.site.specs.Rows.{partAt}
 use Rattle.site.specs.Site.{siteAnswer, siteRows, clearNumber, clearRows}
+use Rattle.site.specs.Forms.{collectingNumber, collectedRows, growNumber, grownRows, shrinkNumber, shrunkRows}
 use Rattle.site.specs.Sheet.{addedOf}
 use Rattle.text.specs.declared.card.CardRead.{CardRead}
 use Rattle.text.specs.Written.{written, buffer}
@@ -22,7 +27,7 @@ use Rattle.text.specs.Readings.{readReading, textOf, readingChecks}
 use Rattle.text.specs.Voids.{readVoid, voidText, voidChecks}
 use Rattle.text.specs.Printed.{lineText, sheetText, lineChecks}
 use Rattle.shapes.specs.Shapes.{illShaped, wide, readingWidth, readingFrom, readingNumbers, noticeWidth, noticeFrom, noticeNumbers}
-use Rattle.gateway.specs.Shapes.{cardWidth, cardFrom, cardNumbers, amountsWidth, amountNumbers, amountsFrom, sheetWidth, sheetNumbers, sheetFrom, amountsRecharge, sheetRecharge, signsFrom, zeros}
+use Rattle.gateway.specs.Shapes.{cardWidth, cardFrom, cardNumbers, bothSums, collectedNumbers, amountsWidth, amountNumbers, amountsFrom, sheetWidth, sheetNumbers, sheetFrom, amountsRecharge, sheetRecharge, signsFrom, zeros}
 
 -- Of each call: what it gives, shaped or not; then when it is shaped, and what it comes to.
 
@@ -44,13 +49,36 @@ abbrev pub Voids : List ℕ → List ℤ → List ℕ → List ℕ → List ℤ 
 Voids card soil rows notice amounts =
     Enters (wide card cardWidth && wide notice noticeWidth && wide amounts amountsWidth) (cardFrom card) soil rows (Entry.Void (noticeFrom notice)) amounts
 
--- ---- clearing
-pub record GivesRows (shaped : Bool) (cleared : ℕ) (after rows : List ℕ) (number : ℕ) (rows' : List ℕ) : Type 0 where
-  pub number-is : number ≡ cond shaped cleared illShaped
+-- ---- clearing, and the moves to rows of another width
+pub record GivesRows (shaped : Bool) (says : ℕ) (after rows : List ℕ) (number : ℕ) (rows' : List ℕ) : Type 0 where
+  pub number-is : number ≡ cond shaped says illShaped
   pub rows-are : rows' ≡ cond shaped after rows
 
 abbrev pub Clears : List ℕ → List ℕ → ℕ → List ℕ → Type 0
 Clears card rows = GivesRows (wide card cardWidth) (clearNumber (cardFrom card) rows) (clearRows (cardFrom card) rows) rows
+
+-- [6] the move over writes `rows`, and the move back `old`
+abbrev pub Grows : List ℕ → List ℕ → List ℕ → ℕ → List ℕ → Type 0
+Grows card old rows =
+    let number = growNumber (cardFrom card) old rows in
+    GivesRows (wide card cardWidth) number (listBy number (grownRows (cardFrom card) old) rows) rows
+
+-- [6]
+abbrev pub Shrinks : List ℕ → List ℕ → List ℕ → ℕ → List ℕ → Type 0
+Shrinks card rows old =
+    let number = shrinkNumber (cardFrom card) rows old in
+    GivesRows (wide card cardWidth) number (listBy number (shrunkRows (cardFrom card) rows) old) old
+
+-- ---- [6] collecting a cell: what the site collects, two zeros where it refuses, and the rows after it
+pub record GivesSums (shaped : Bool) (got : Collected) (after rows sums : List ℕ) (number : ℕ) (rows' sums' : List ℕ) : Type 0 where
+  pub number-is : number ≡ cond shaped (got .number) illShaped
+  pub rows-are : rows' ≡ cond shaped after rows
+  pub sums-are : sums' ≡ cond shaped (collectedNumbers got) sums
+
+abbrev pub Collects : List ℕ → List ℕ → ℕ → List ℕ → ℕ → List ℕ → List ℕ → Type 0
+Collects card rows cell sums =
+    let number = collectingNumber (cardFrom card) rows cell in
+    GivesSums (wide card cardWidth && wide sums bothSums) (collectedBy number (partAt (rowWidth (cardFrom card)) cell rows)) (listBy number (collectedRows (cardFrom card) cell rows) rows) rows sums
 
 -- ---- adding an answer to a sheet
 -- by number and signs an answer can be added: accepted, and no number of the sheet or of the answer negative but recharge

@@ -10,6 +10,7 @@ use mir.Val.{SFits}
 use Rattle.form.specs.Signed.{isNeg}
 use Rattle.cell.specs.declared.Amounts.{Amounts}
 use Rattle.cell.specs.declared.Card.{Card}
+use Rattle.cell.specs.declared.Collected.{Collected}
 use Rattle.cell.specs.declared.Net.{Net}
 use Rattle.cell.specs.declared.Water.{Water}
 use Rattle.cell.specs.Water.{water, net}
@@ -24,6 +25,13 @@ cardFrom l = record { cells = getD l 0 0; delays = getD l 1 0; depths = take 30 
 
 unfoldable pub cardNumbers : Card → List ℕ
 cardNumbers c = c .cells ∷ c .delays ∷ (c .depths ++ (c .share ∷ []))
+
+-- [6] what is collected of a cell: the sums of runoff and of drainage
+abbrev pub bothSums : ℕ
+bothSums = 2
+
+abbrev pub collectedNumbers : Collected → List ℕ
+collectedNumbers got = got .runoff .0 ∷ got .drain .0 ∷ []
 
 -- the ten amounts: inflow, runoff, etvad, etstor, etsat, drain, release, stored, recharge, left
 abbrev pub amountsWidth : ℕ

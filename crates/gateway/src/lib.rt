@@ -2,7 +2,7 @@
 ghost use mathlib.Core.Path.{_≡_};
 ghost use mathlib.Core.Bool.{true};
 ghost use lib.ListN.{length};
-ghost use Rattle.gateway.specs.Calls.{Enters, Steps, Voids, Clears, Adds, ReadsCard, ReadsReading, ReadsVoid, WritesCard, WritesReading, WritesVoid, WritesAnswer, WritesSheet};
+ghost use Rattle.gateway.specs.Calls.{Enters, Steps, Voids, Clears, Collects, Grows, Shrinks, Adds, ReadsCard, ReadsReading, ReadsVoid, WritesCard, WritesReading, WritesVoid, WritesAnswer, WritesSheet};
 ghost use Rattle.journal.specs.Book.{BookGives};
 use cell::Answer;
 use cell::Card;
@@ -87,6 +87,50 @@ pub extern "C" fn waterbook_clear(card: &[u32], rows: &mut [u32]) -> u32
         return 255;
     }
     site::clear(records::card_from(card), rows)
+}
+
+// Both sums of a cell, which are then 0.
+#[no_mangle]
+pub extern "C" fn waterbook_collect(
+    card: &[u32],
+    rows: &mut [u32],
+    cell: u32,
+    sums: &mut [u64],
+) -> u32
+    ensures { λ n. ⌜ Collects (now (card .entry)) (now (rows .entry)) cell (now (sums .entry)) n (now (rows .exit)) (now (sums .exit)) ⌝ }
+{
+    if card.len() != 33 {
+        return 255;
+    }
+    if sums.len() != 2 {
+        return 255;
+    }
+    let got = site::collect(records::card_from(card), rows, cell);
+    sums[0] = got.runoff.0;
+    sums[1] = got.drain.0;
+    got.number
+}
+
+// Rows of 32 numbers into rows with sums.
+#[no_mangle]
+pub extern "C" fn waterbook_grow(card: &[u32], old: &[u32], rows: &mut [u32]) -> u32
+    ensures { λ n. ⌜ Grows (now (card .entry)) (now (old .entry)) (now (rows .entry)) n (now (rows .exit)) ⌝ }
+{
+    if card.len() != 33 {
+        return 255;
+    }
+    site::grow(records::card_from(card), old, rows)
+}
+
+// And back, where nothing is in the sums.
+#[no_mangle]
+pub extern "C" fn waterbook_shrink(card: &[u32], rows: &[u32], old: &mut [u32]) -> u32
+    ensures { λ n. ⌜ Shrinks (now (card .entry)) (now (rows .entry)) (now (old .entry)) n (now (old .exit)) ⌝ }
+{
+    if card.len() != 33 {
+        return 255;
+    }
+    site::shrink(records::card_from(card), rows, old)
 }
 
 // Adds an answer, its number and its amounts, to a sheet.
