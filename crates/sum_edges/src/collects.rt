@@ -6,7 +6,7 @@ use crate::show;
 fn collect(rows: &mut [u32], cells: u32, cell: u32) {
     show::named(b"plots ", cells);
     show::amount(b", row numbers ", rows.len() as u64);
-    show::named(b", collecting plot ", cell);
+    io::write_all(1, b", ");
     show::collect(plots::card(cells), rows, cell);
 }
 
@@ -54,27 +54,29 @@ fn lengths() {
     collect(&mut short, 2, 2);
 }
 
-// Number 5, by the row of the named plot alone. Number 3 comes before it.
-fn rows() {
+// Number 5, by the row of the named plot alone.
+fn first_row() {
     with(b"first plot: life ", 0, 65535, 0);
     with(b"first plot: life ", 0, 65536, 0);
     with(b"first plot: life ", 0, 65536, 1);
     with(b"first plot: slot 3 at ", 4, 1, 0);
     with(b"first plot: high runoff number ", 32, 232830644, 0);
     with(b"first plot: high runoff number ", 32, 232830644, 1);
+}
+
+// The same by the second row. Number 3 comes before it.
+fn second_row() {
     with(b"second plot: low drainage number ", 71, 2808348672, 1);
     with(b"second plot: low drainage number ", 71, 2808348673, 1);
     with(b"second plot: low drainage number ", 71, 2808348673, 0);
     with(b"second plot: life ", 36, 65536, 2);
 }
 
-// Clearing two plots, and one plot with the rows of two.
+// Clearing one plot with the rows of two, then both.
 fn clearing() {
     let mut rows = plots::two();
-    io::write_all(1, b"plots 1, row numbers 72, clearing");
-    show::clear(plots::card(1), &mut rows);
-    io::write_all(1, b"plots 2, row numbers 72, clearing");
-    show::clear(plots::card(2), &mut rows);
+    show::clear(b"plots 1, row numbers 72", plots::card(1), &mut rows);
+    show::clear(b"plots 2, row numbers 72", plots::card(2), &mut rows);
 }
 
 pub fn cases() {
@@ -82,6 +84,7 @@ pub fn cases() {
     of(2, 1);
     sites();
     lengths();
-    rows();
+    first_row();
+    second_row();
     clearing();
 }

@@ -21,7 +21,7 @@ fn drain() {
     days::over(0, 0, 999999999999950001);
     days::over(0, FULL, 0);
     let at = plots::reading(7, 0, 0x4120_0000);
-    days::given(b"rain 0, table at ground", at, 0, FULL);
+    days::given(b"table at ground, rain 0", at, 0, FULL);
 }
 
 // Room for both, and for 1 less of either.
@@ -42,28 +42,27 @@ fn open() {
     let storm = plots::reading(7, 50800, 0x410c_0000);
     let later = plots::reading(8, 50800, 0x410c_0000);
     let mut row = plots::row(999999999999985714, 0);
-    io::write_all(1, b"a storm on a nearly full sum");
-    show::step(&mut row, storm);
-    io::write_all(1, b"the next day");
-    show::step(&mut row, later);
-    io::write_all(1, b"collecting");
+    show::step(b"a storm on a nearly full sum", &mut row, storm);
+    show::step(b"the next day", &mut row, later);
     show::collect(plots::card(1), &mut row, 0);
-    io::write_all(1, b"the storm again");
-    show::step(&mut row, storm);
-    io::write_all(1, b"the next day");
-    show::step(&mut row, later);
+    show::step(b"the storm again", &mut row, storm);
+    show::step(b"the next day", &mut row, later);
 }
 
-// Numbers 10, 9, 8, 7 and 6 come before 15 on a plot whose sums are full; 5 comes before 6.
-fn order() {
+// Numbers 10, 9 and 8 come before 15 on a plot whose sums are full.
+fn readings() {
     let inactive = plots::reading(7, 50800, 0x7149_f2ca);
     let unusable = plots::reading(7, 50800, 0x461c_4001);
-    let high = plots::reading(8, 50800, 0x410c_0000);
-    let low = plots::reading(6, 50800, 0x410c_0000);
     days::given(b"an inactive head", inactive, FULL, FULL);
     days::given(b"an unusable head", unusable, FULL, FULL);
     days::under(1000000, FULL, FULL);
     days::under(1000001, FULL, FULL);
+}
+
+// So do 7 and 6; and 5 comes before 6.
+fn counts() {
+    let high = plots::reading(8, 50800, 0x410c_0000);
+    let low = plots::reading(6, 50800, 0x410c_0000);
     days::given(b"a count left out", high, FULL, FULL);
     days::given(b"the last count again", low, FULL, FULL);
     days::given(b"the last count again", low, PAST, 0);
@@ -75,5 +74,6 @@ pub fn cases() {
     both();
     nothing();
     open();
-    order();
+    readings();
+    counts();
 }

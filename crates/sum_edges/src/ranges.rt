@@ -30,14 +30,10 @@ fn lengths() {
     let mut short = [0u32; 35];
     let mut long = [0u32; 37];
     let mut row = [0u32; 36];
-    io::write_all(1, b"a row of 32 numbers");
-    show::step(&mut old, first);
-    io::write_all(1, b"a row of 35 numbers");
-    show::step(&mut short, first);
-    io::write_all(1, b"a row of 37 numbers");
-    show::step(&mut long, first);
-    io::write_all(1, b"a row of 36 numbers");
-    show::step(&mut row, first);
+    show::step(b"a row of 32 numbers", &mut old, first);
+    show::step(b"a row of 35 numbers", &mut short, first);
+    show::step(b"a row of 37 numbers", &mut long, first);
+    show::step(b"a row of 36 numbers", &mut row, first);
 }
 
 pub fn cases() {

@@ -1,6 +1,8 @@
 // What is printed of a case: what was asked, the number that came back, and the rows as they then stand.
 use crate::plots;
+use cell::Answer;
 use cell::Card;
+use cell::Collected;
 use cell::Entry;
 
 // A name and an amount of water.
@@ -14,17 +16,26 @@ pub fn named(name: &[u8], number: u32) {
     amount(name, number as u64);
 }
 
-// The row that stands first: its life, next count, first two slots, and the high and the low number of both sums.
+// A row's life, next count and first two slots.
+fn queue(life: u32, next: u32, first_slot: u32, second_slot: u32) {
+    named(b"  life=", life);
+    named(b" next=", next);
+    named(b" slots=", first_slot);
+    named(b",", second_slot);
+}
+
+// The high and the low number of one of its sums.
+fn sum(name: &[u8], high: u32, low: u32) {
+    named(name, high);
+    named(b",", low);
+}
+
+// The row that stands first.
 fn plot(rows: &[u32]) {
     if 36 <= rows.len() {
-        named(b"  life=", rows[0]);
-        named(b" next=", rows[1]);
-        named(b" slots=", rows[2]);
-        named(b",", rows[3]);
-        named(b" runoff=", rows[32]);
-        named(b",", rows[33]);
-        named(b" drainage=", rows[34]);
-        named(b",", rows[35]);
+        queue(rows[0], rows[1], rows[2], rows[3]);
+        sum(b" runoff=", rows[32], rows[33]);
+        sum(b" drainage=", rows[34], rows[35]);
     }
 }
 
@@ -38,30 +49,49 @@ fn site_rows(rows: &[u32]) {
     io::write_all(1, b"\n");
 }
 
-// One entry, given to the example's plot.
-pub fn step(rows: &mut [u32], e: Entry) {
-    let soil = plots::soil();
-    let answer = site::step(plots::card(1), &soil, rows, e);
+// The number of an answer, its runoff and its drain.
+fn answered(answer: Answer) {
     let a = cell::amounts_of(answer);
     named(b": ", cell::number_of(answer));
     amount(b" runoff=", a.runoff.0);
     amount(b" drain=", a.drain.0);
+}
+
+// One entry, given to the example's plot.
+pub fn step(what: &[u8], rows: &mut [u32], e: Entry) {
+    let soil = plots::soil();
+    io::write_all(1, what);
+    answered(site::step(plots::card(1), &soil, rows, e));
     site_rows(rows);
+}
+
+// The number of a collection, and both sums.
+fn gathered(got: Collected) {
+    named(b": ", got.number);
+    amount(b" runoff=", got.runoff.0);
+    amount(b" drainage=", got.drain.0);
 }
 
 // A plot's sums, collected.
 pub fn collect(card: Card, rows: &mut [u32], cell: u32) {
-    let got = site::collect(card, rows, cell);
-    named(b": ", got.number);
-    amount(b" runoff=", got.runoff.0);
-    amount(b" drainage=", got.drain.0);
+    named(b"collecting plot ", cell);
+    gathered(site::collect(card, rows, cell));
     site_rows(rows);
 }
 
 // All rows, cleared.
-pub fn clear(card: Card, rows: &mut [u32]) {
-    named(b": ", site::clear(card, rows));
+pub fn clear(what: &[u8], card: Card, rows: &mut [u32]) {
+    io::write_all(1, what);
+    named(b", clearing: ", site::clear(card, rows));
     site_rows(rows);
+}
+
+// For how many plots, and how many numbers, a move is asked.
+pub fn asked(way: &[u8], cells: u32, from: usize, to: usize) {
+    named(b"plots ", cells);
+    amount(b", ", from as u64);
+    io::write_all(1, b" numbers");
+    amount(way, to as u64);
 }
 
 // One number of a slice.

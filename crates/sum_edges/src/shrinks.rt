@@ -1,109 +1,107 @@
 // Rows moved back to the form without sums: numbers 1, 2 for either slice, 5 for every row, and 16 while a sum holds anything. The slice that is written is filled with 7 before.
+ghost use Prim.Native.Nat.{_≤_};
 use crate::plots;
 use crate::show;
 
 // Rows moved back under a card for so many plots.
 fn back(cells: u32, rows: &[u32], old: &mut [u32]) {
-    show::named(b"plots ", cells);
-    show::amount(b", ", rows.len() as u64);
-    show::amount(b" numbers back into ", old.len() as u64);
+    show::asked(b" back into ", cells, rows.len(), old.len());
     show::moved(site::shrink(plots::deep(cells), rows, old), old);
 }
 
-// Rows moved back into those of two plots.
-fn two(cells: u32, rows: &[u32]) {
-    let mut old = [7u32; 64];
-    back(cells, rows, &mut old);
+// The same into so many numbers.
+fn into(cells: u32, rows: &[u32], numbers: usize)
+    requires { ⌜ numbers ≤ 72 ⌝ }
+{
+    let mut old = [7u32; 72];
+    back(cells, rows, &mut old[..numbers]);
 }
 
-// Rows of two plots, moved back.
+// Two plots' rows, moved back.
 fn with(what: &[u8], rows: [u32; 72]) {
     io::write_all(1, what);
     io::write_all(1, b", ");
-    two(2, &rows);
+    into(2, &rows, 64);
 }
 
-// The rows that were moved over, and what is not two plots' rows. Number 1 comes before 2.
-fn lengths() {
+// The rows that were moved over; numbers 1 and 2 by the card.
+fn cards() {
     let new = plots::new();
-    let old = plots::old();
+    into(2, &new, 64);
+    into(0, &new, 64);
+    into(257, &new, 64);
+    into(1, &new, 64);
+    into(3, &new, 64);
+}
+
+// Number 2 by the rows that are moved: one number too few, one too many, and rows without sums. Number 1 comes before it.
+fn lengths() {
     let short = [0u32; 71];
     let long = [0u32; 73];
-    two(2, &new);
-    two(0, &new);
-    two(257, &new);
-    two(1, &new);
-    two(3, &new);
-    two(2, &short);
-    two(2, &long);
-    two(2, &old);
-    two(0, &old);
+    let old = plots::old();
+    into(2, &short, 64);
+    into(2, &long, 64);
+    into(2, &old, 64);
+    into(0, &old, 64);
 }
 
-// The slice that is written. Number 2 comes before 5.
+// Number 2 by the slice that is written. It comes before 5.
 fn rooms() {
     let new = plots::new();
     let bad = [65536u32; 72];
-    let mut short = [7u32; 63];
-    let mut long = [7u32; 65];
-    let mut same = [7u32; 72];
-    back(2, &new, &mut short);
-    back(2, &new, &mut long);
-    back(2, &new, &mut same);
+    into(2, &new, 63);
+    into(2, &new, 65);
+    into(2, &new, 72);
     io::write_all(1, b"lives 65536, ");
-    back(2, &bad, &mut short);
+    into(2, &bad, 63);
 }
 
-// Number 16, by each of the four numbers and by a full sum; one past full is 5.
+// Number 16 by each of the four numbers.
 fn sums() {
     let new = plots::new();
     with(b"first plot: high runoff 1", plots::with(new, 32, 1));
     with(b"first plot: low runoff 1", plots::with(new, 33, 1));
     with(b"second plot: high drainage 1", plots::with(new, 70, 1));
     with(b"second plot: low drainage 1", plots::with(new, 71, 1));
-    let high = plots::with(new, 32, 232830643);
-    with(
-        b"first plot: runoff 10^18",
-        plots::with(high, 33, 2808348672),
-    );
-    with(
-        b"first plot: runoff 10^18 + 1",
-        plots::with(high, 33, 2808348673),
-    );
 }
 
-// Number 5 comes before 16, whichever row it is.
+// The same by a full sum; one past full is 5.
+fn full() {
+    let high = plots::with(plots::new(), 32, 232830643);
+    let full = plots::with(high, 33, 2808348672);
+    let past = plots::with(high, 33, 2808348673);
+    with(b"first plot: runoff 10^18", full);
+    with(b"first plot: runoff 10^18 + 1", past);
+}
+
+// Number 5 comes before 16, whichever plot's row it is.
 fn order() {
-    let new = plots::new();
-    let first = plots::with(new, 33, 1);
-    let second = plots::with(new, 71, 1);
+    let first = plots::with(plots::new(), 33, 1);
+    let kept = plots::with(first, 36, 65535);
+    let later = plots::with(first, 36, 65536);
+    let earlier = plots::with(plots::with(plots::new(), 71, 1), 0, 65536);
+    with(b"first plot: low runoff 1, second plot: life 65535", kept);
+    with(b"first plot: low runoff 1, second plot: life 65536", later);
     with(
-        b"first plot: low runoff 1, second plot: life 65535",
-        plots::with(first, 36, 65535),
-    );
-    with(
-        b"first plot: low runoff 1, second plot: life 65536",
-        plots::with(first, 36, 65536),
-    );
-    with(
-        b"second plot: low drainage 1, first plot: life 65536",
-        plots::with(second, 0, 65536),
+        b"first plot: life 65536, second plot: low drainage 1",
+        earlier,
     );
 }
 
 // The sum that stands in the way, collected.
 fn collected() {
     let mut rows = plots::with(plots::new(), 71, 1);
-    two(2, &rows);
-    io::write_all(1, b"collecting plot 1");
+    into(2, &rows, 64);
     show::collect(plots::deep(2), &mut rows, 1);
-    two(2, &rows);
+    into(2, &rows, 64);
 }
 
 pub fn cases() {
+    cards();
     lengths();
     rooms();
     sums();
+    full();
     order();
     collected();
 }
