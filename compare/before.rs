@@ -13,8 +13,10 @@ mod waterbook;
 
 use courses::courses;
 use std::process::ExitCode;
-use times::{Step, in_numbers, millions, ratio_cells, sliced_pairs, sliced_steps, step_pairs};
-use waterbook::{CARD, NOT_THE_COUNT, SHARE_AT};
+use times::{
+    Side, Step, in_numbers, millions, ratio_cells, sliced_pairs, sliced_steps, step_pairs,
+};
+use waterbook::{CARD, NOT_THE_COUNT, OLD_ROW, ROW, Refusal, SHARE_AT, USUAL_SHARE};
 
 /// A library's step by the name that it is linked under, where its cards have so many numbers.
 macro_rules! step_of {
@@ -53,13 +55,19 @@ macro_rules! step_of {
     }};
 }
 
-/// The earlier library's step: where it says that a card with a share is too wide, its cards are lent without.
-fn earlier() -> Step {
+/// The earlier library: where it says that a card with a share is too wide, its cards are lent without, and where rows
+/// with sums are too long for it, its rows have none.
+fn earlier() -> Side {
     let (whole, shareless) = (step_of!(before_step, CARD), step_of!(before_step, SHARE_AT));
-    match whole(&[0; CARD], &[], &mut [], &[0; 10], &mut [0; 10]) {
+    let step = match whole(&[0; CARD], &[], &mut [], &[0; 10], &mut [0; 10]) {
         NOT_THE_COUNT => shareless,
         _ => whole,
-    }
+    };
+    let mut card = [0; CARD];
+    (card[0], card[SHARE_AT]) = (1, USUAL_SHARE);
+    let number = step(&card, &[0, 1, 1, 0, 1], &mut [0; ROW], &[0; 10], &mut [0; 10]);
+    let sumless = number == Refusal::BadLengths.number();
+    Side { step, row: if sumless { OLD_ROW } else { ROW } }
 }
 
 fn main() -> ExitCode {
@@ -68,7 +76,7 @@ fn main() -> ExitCode {
         eprintln!("usage: before NAME");
         return ExitCode::from(2);
     };
-    let (before, now) = (earlier(), step_of!(now_step, CARD));
+    let (before, now) = (earlier(), Side { step: step_of!(now_step, CARD), row: ROW });
     println!(
         "\nSteps of the library of {commit} (before) and of this one (now), 4 cells, in millions per second;"
     );
@@ -81,11 +89,11 @@ fn main() -> ExitCode {
     println!("|---|---|---|---|---|---|---|---|---|");
     for (name, course) in courses() {
         let readings = in_numbers(&course);
-        let [was, is] = [before, now].map(|step| sliced_steps(step, &course, &readings).1);
-        assert_eq!(was, is, "the two libraries answer alike");
+        let [was, is] = [before, now].map(|side| sliced_steps(side, &course, &readings));
+        assert!(was.alike(before.row, &is), "the two libraries answer alike");
         let pairs = sliced_pairs(now, before, &course);
         let ratio = ratio_cells(&pairs.ratio);
-        let [was, is] = [before, now].map(|step| step_pairs(step, &course).ratio[1]);
+        let [was, is] = [before, now].map(|side| step_pairs(side, &course).ratio[1]);
         let (old, new) = (millions(pairs.other), millions(pairs.one));
         println!("| {name} | {old:.2} | {new:.2} | {ratio} | {was:.2} | {is:.2} |");
     }

@@ -2,6 +2,7 @@
 //! and to the second program, and holds all that the one answers to the other's answers.
 
 mod branches;
+mod collects;
 mod entries;
 mod forms;
 mod given;
@@ -9,16 +10,19 @@ mod heads;
 mod journals;
 mod lent;
 mod lines;
+mod moves;
 mod numbers;
 #[allow(dead_code)]
 #[path = "../node/outbox.rs"]
 mod outbox;
 mod outboxes;
 mod refusals;
+mod runs;
 mod shares;
 mod sheets;
 mod sides;
 mod steps;
+mod sums;
 mod tally;
 mod texts;
 mod voids;
@@ -28,6 +32,7 @@ mod waterbook;
 mod wild;
 
 use given::Call;
+use moves::Way;
 use second::made::dice::Dice;
 use std::process::ExitCode;
 use tally::Tally;
@@ -45,6 +50,15 @@ const MUST: &[(&str, &[&str])] = &[
     ("voids", voids::VOIDS),
     ("voids refused for", refusals::TURNS),
     ("clearings", refusals::CLEARINGS),
+    ("added to the sums", sums::ADDED),
+    ("sums at an edge", sums::EDGES),
+    ("over full sums", sums::BEFORE),
+    ("collections", collects::COLLECTIONS),
+    ("moves over", moves::MOVES),
+    ("moves back", moves::MOVES),
+    ("moves back, by the sums", moves::SUMS),
+    ("sites moved", moves::SITES),
+    ("runs", runs::RUNS),
     ("heads met by the head's check", heads::CLASSES),
     ("sheets", sheets::REFUSALS),
     ("texts", texts::TEXTS),
@@ -94,7 +108,8 @@ fn dice_of(seed: u64, round: u64) -> Dice {
     Dice::new(stirred.roll().wrapping_add(round.wrapping_mul(0x9fb2_1c65_1e98_df25)))
 }
 
-/// One round: days, wild steps and voids, clearings, sheets, texts, journals, outboxes; round 0 begins with the sweeps.
+/// One round: days, wild steps and voids, clearings, collections, moves, sheets, texts, journals, outboxes; round 0
+/// begins with the sweeps.
 fn round(asked: &Asked, round: u64, tally: &mut Tally) -> Result<(), String> {
     let dice = &mut dice_of(asked.seed, round);
     if round == 0 {
@@ -102,14 +117,20 @@ fn round(asked: &Asked, round: u64, tally: &mut Tally) -> Result<(), String> {
         shares::on_cards(tally)?;
         steps::delays(tally)?;
         voids::queues(tally)?;
+        sums::at_edges(tally)?;
+        sums::before_15(tally)?;
+        moves::sites(tally)?;
         shares::in_texts(tally)?;
     }
     let days = 200 + dice.below(1000);
-    steps::run(dice, tally, days)?;
+    runs::run(dice, tally, days)?;
     steps::wild_steps(dice, tally, Call::Step, 100)?;
     steps::wild_steps(dice, tally, Call::Step, 100)?;
     steps::wild_steps(dice, tally, Call::Void, 100)?;
     steps::clearings(dice, tally, 10)?;
+    collects::wild_collections(dice, tally, 30)?;
+    moves::wild_moves(dice, tally, Way::Over, 20)?;
+    moves::wild_moves(dice, tally, Way::Back, 20)?;
     sheets::wild_sheets(dice, tally, 200)?;
     for _ in 0..40 {
         entries::read_and_write(dice, tally)?;

@@ -1,10 +1,11 @@
 //! The courses of the race: sites, and the readings that are given to them.
 
-use crate::waterbook;
+use crate::waterbook::{self, ROW, SOIL};
 use second::made::dice::Dice;
 use second::made::readings::{card_bytes, reading_bytes};
 use second::made::site::Site;
-use second::numbers::{Card, Reading};
+use second::numbers::{Card, MOST, Reading};
+use second::sums::{MOST_SUMMED, Sums};
 
 /// Readings of a course, and how often they are gone through for one time.
 pub const READINGS: usize = 4096;
@@ -14,6 +15,9 @@ const TOP: i64 = 10_000_000;
 /// The first delay depth and the way from one to the next, in µm.
 const FIRST: i64 = 500_000;
 const NEXT: i64 = 250_000;
+
+/// Sums to which nothing can be added.
+const FULL: Sums = Sums { runoff: MOST_SUMMED, drainage: MOST_SUMMED };
 
 /// Where the water table stands: about the plants' roots, between the delay depths, or below the last of them.
 #[derive(Clone, Copy, PartialEq)]
@@ -79,7 +83,7 @@ fn day(dice: &mut Dice, cell: usize, table: Table, delays: u32) -> Reading {
 fn site(cells: u32, delays: u32) -> Site {
     let plots = cells as usize;
     let soil = [TOP, 1_500_000, 200, 100_000, 80].repeat(plots);
-    let mut row = [0; 32];
+    let mut row = [0; ROW];
     (row[0], row[1]) = (3, 7);
     Site { card: card(cells, delays), soil, rows: row.repeat(plots), usual: Vec::new() }
 }
@@ -124,8 +128,9 @@ pub fn refused_with(number: u32, delays: u32) -> Course {
     match number {
         1 => site.card.depths[delays as usize - 1] = site.card.depths[delays as usize - 2],
         2 => drop(site.rows.pop()),
-        4 => site.soil.chunks_mut(5).for_each(|plot| plot[4] = 0),
-        5 => site.rows.chunks_mut(32).for_each(|row| row[31] = 1),
+        4 => site.soil.chunks_mut(SOIL).for_each(|plot| plot[4] = 0),
+        5 => site.rows.chunks_mut(ROW).for_each(|row| row[31] = 1),
+        15 => site.rows.chunks_mut(ROW).for_each(|row| FULL.write(row)),
         _ => {}
     }
     for reading in &mut course.readings {
@@ -137,6 +142,7 @@ pub fn refused_with(number: u32, delays: u32) -> Course {
             8 => reading.amc = 0,
             9 => reading.head = 0x7fc0_0000,
             10 => reading.head = 0x7149_f2ca,
+            15 => reading.rain = MOST,
             _ => {}
         }
     }

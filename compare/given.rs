@@ -6,7 +6,7 @@ use crate::numbers::{amounts_numbers, card_numbers, card_of};
 use crate::numbers::{reading_numbers, reading_of, void_numbers, void_of};
 use crate::tally::Tally;
 use crate::waterbook::{AMOUNTS, CARD, NOT_THE_COUNT, NOTICE, READING, ROW, SOIL, raw};
-use crate::{refusals, voids};
+use crate::{refusals, sums, voids};
 use second::made::site::Site;
 use second::numbers::{Entry, Reading, Void};
 
@@ -96,12 +96,14 @@ impl Given {
     /// The second's step.
     fn second_step(&mut self, reading: &Reading, tally: &mut Tally) -> u32 {
         let card = &card_of(&self.card);
+        let before = sums::held(&self.rows, reading.cell);
         let (number, answer) = second::step::step(card, &self.soil, &mut self.rows, reading);
         self.amounts.copy_from_slice(&amounts_numbers(&answer));
         if number == 0 {
             let cell = reading.cell as usize;
             let (soil, after) = (&self.soil[SOIL * cell..], &self.rows[ROW * cell..]);
             branches::accepted(&Met { card, soil, after, reading, answer: &answer }, tally);
+            sums::added(before, &answer, tally);
         } else {
             refusals::refused(number, card, &self.soil, &self.rows, reading, tally);
         }
@@ -112,10 +114,12 @@ impl Given {
     fn second_void(&mut self, void: &Void, tally: &mut Tally) -> u32 {
         let card = &card_of(&self.card);
         let life = self.rows.get(ROW.saturating_mul(void.cell as usize)).copied();
+        let before = sums::held(&self.rows, void.cell);
         let (number, answer) = second::step::void(card, &self.soil, &mut self.rows, void);
         self.amounts.copy_from_slice(&amounts_numbers(&answer));
         if number == 0 {
             voids::accepted(card, life, void, &answer, tally);
+            voids::kept(before, tally);
         } else {
             let name = refusals::turn_fault(number, card, &self.soil, &self.rows, void);
             tally.meet(self.call.refusals(), name);
@@ -128,7 +132,7 @@ impl Given {
 pub struct Slices {
     card: Lent<u32>,
     soil: Lent<i64>,
-    rows: Lent<u32>,
+    pub rows: Lent<u32>,
     entry: Lent<u32>,
     amounts: Lent<i64>,
 }

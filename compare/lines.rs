@@ -17,7 +17,7 @@ pub const ANSWERS: &[&str] = &[
     "written, the longest",
     "written, buffer exactly as long",
     "buffer too short",
-    "number above 10",
+    "number of no answer",
     "refused with an amount",
     "number negative",
     "numbers of another count",
@@ -52,8 +52,8 @@ fn negative(numbers: &[i64], recharge: usize) -> bool {
 fn answer_of(cell: u32, number: u32, amounts: &[i64]) -> Line {
     if amounts.len() != AMOUNTS {
         Err("numbers of another count")
-    } else if number > 10 {
-        Err("number above 10")
+    } else if number > 10 && number != 15 {
+        Err("number of no answer")
     } else if number != 0 && amounts.iter().any(|amount| *amount != 0) {
         Err("refused with an amount")
     } else if negative(amounts, ANSWER_RECHARGE) {
@@ -153,7 +153,7 @@ fn written(
 /// Write an answer's line on both sides.
 pub fn write_answer(dice: &mut Dice, tally: &mut Tally) -> Result<(), String> {
     let (cell, some) = (wild::any(dice), wild::any(dice));
-    let number = dice.pick(&[0, 0, 0, 1 + some % 10, 1 + some % 10, 11, some]);
+    let number = dice.pick(&[0, 0, 0, 1 + some % 10, 1 + some % 10, 11 + some % 6, 15, some]);
     let fair = fair_amounts(dice);
     let mut amounts = ten(dice, fair, ANSWER_RECHARGE);
     if number != 0 && !dice.once_in(4) {

@@ -1,8 +1,9 @@
 //! The second program's records as the library's numbers, and back.
 
-use crate::waterbook::{AMOUNTS, CARD, NOTICE, READING, SHARE_AT, SHEET};
+use crate::waterbook::{AMOUNTS, CARD, NOTICE, READING, SHARE_AT, SHEET, SUMS};
 use second::numbers::{Amounts, Card, Reading, Void};
 use second::sheet::Sheet;
+use second::sums::Sums;
 
 /// A card as the library's numbers.
 pub fn card_numbers(card: &Card) -> [u32; CARD] {
@@ -54,6 +55,11 @@ pub fn amounts_of(n: &[i64]) -> Amounts {
     let (inflow, runoff, etvad, etstor, etsat) = (n[0], n[1], n[2], n[3], n[4]);
     let (drain, release, stored, recharge, left) = (n[5], n[6], n[7], n[8], n[9]);
     Amounts { inflow, runoff, etvad, etstor, etsat, drain, release, stored, recharge, left }
+}
+
+/// Sums as two numbers.
+pub fn sums_numbers(sums: &Sums) -> [u64; SUMS] {
+    [sums.runoff, sums.drainage]
 }
 
 /// A sheet as ten numbers.

@@ -14,12 +14,15 @@ use std::hint::black_box;
 use std::io::Write;
 use std::process::{Command, ExitCode, Stdio};
 use std::time::Instant;
-use times::{PAIRS, millions, pairs, ratio_cells, sliced_pairs, step_over_slices, step_pairs};
+use times::{
+    LIBRARY, PAIRS, Side, millions, pairs, ratio_cells, sliced_pairs, step_over_slices, step_pairs,
+};
 use waterbook::raw;
 
 /// The ratio to the second's step over the library's slices.
 fn over_slices(course: &Course) -> f64 {
-    sliced_pairs(raw::step, step_over_slices, course).ratio[1]
+    let second = Side { step: step_over_slices, ..LIBRARY };
+    sliced_pairs(LIBRARY, second, course).ratio[1]
 }
 
 /// Steps per second.
@@ -32,7 +35,7 @@ fn race_steps() {
     );
     println!("|---|---|---|---|---|---|---|---|");
     for (name, course) in courses() {
-        let pairs = step_pairs(raw::step, &course);
+        let pairs = step_pairs(LIBRARY, &course);
         let (proved, second) = (millions(pairs.one), millions(pairs.other));
         let (ratio, sliced) = (ratio_cells(&pairs.ratio), over_slices(&course));
         println!("| {name} | {proved:.2} | {second:.2} | {ratio} | {sliced:.2} |");
@@ -80,7 +83,7 @@ fn race_cells() {
     println!("| cells | proved | second | ratio | spread of the ratio |");
     println!("|---|---|---|---|---|");
     for cells in [1, 2, 4, 8, 16, 32, 64, 128, 256] {
-        let pairs = step_pairs(raw::step, &accepted(cells, 5, Table::Deep));
+        let pairs = step_pairs(LIBRARY, &accepted(cells, 5, Table::Deep));
         let nanos = |seconds: f64| seconds * 1e9 / (READINGS * TIMES) as f64;
         let (proved, second) = (nanos(pairs.one), nanos(pairs.other));
         println!("| {cells} | {proved:.1} | {second:.1} | {} |", ratio_cells(&pairs.ratio));
@@ -94,9 +97,9 @@ fn race_refusals() {
     );
     println!("| number | proved | second | ratio | spread of the ratio | over slices |");
     println!("|---|---|---|---|---|---|");
-    for number in 1..=10 {
+    for number in (1..=10).chain([15]) {
         let course = refused_with(number, 5);
-        let pairs = step_pairs(raw::step, &course);
+        let pairs = step_pairs(LIBRARY, &course);
         let nanos = |seconds: f64| seconds * 1e9 / (READINGS * TIMES) as f64;
         let (proved, second) = (nanos(pairs.one), nanos(pairs.other));
         let (ratio, sliced) = (ratio_cells(&pairs.ratio), over_slices(&course));

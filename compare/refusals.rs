@@ -1,9 +1,11 @@
 //! What steps, voids and clearings were refused for.
 
 use crate::heads;
+use crate::sums;
 use crate::tally::Tally;
-use crate::waterbook::SHARE_AT;
-use second::numbers::{Card, Reading, Turn, turn_in_range};
+use crate::waterbook::{OLD_ROW, ROW, SHARE_AT, SOIL};
+use second::numbers::{Card, Reading, Turn, slot_limit, turn_in_range};
+use second::sums::{MOST_SUMMED, Sums};
 
 /// What must be refused of steps and of voids alike: slices, cards, plots, rows and turns.
 pub const TURNS: &[&str] = &[
@@ -20,6 +22,7 @@ pub const TURNS: &[&str] = &[
     "2 soil long",
     "2 rows short",
     "2 rows long",
+    "2 rows without sums",
     "3 cell",
     "4 top low",
     "4 top high",
@@ -35,6 +38,8 @@ pub const TURNS: &[&str] = &[
     "5 next count",
     "5 slot above its limit",
     "5 slot above M",
+    "5 runoff above 10^18",
+    "5 drainage above 10^18",
     "6 life lower",
     "6 count lower",
     "7 count higher",
@@ -63,11 +68,12 @@ pub const CLEARINGS: &[&str] = &[
     "1 share above 20",
     "2 rows short",
     "2 rows long",
+    "2 rows without sums",
     "255 card",
     "255 card without its share",
 ];
 
-/// What must be refused of steps alone: a reading's figures and its head.
+/// What must be refused of steps alone: a reading's figures, its head, and what it would add to the sums.
 pub const FIGURES: &[&str] = &[
     "8 rain",
     "8 irrig",
@@ -79,6 +85,9 @@ pub const FIGURES: &[&str] = &[
     "8 amc above 3",
     "9 head",
     "10 head",
+    "15 runoff",
+    "15 drainage",
+    "15 both",
 ];
 
 /// What a turn was refused for; the slices are as they were lent.
@@ -94,11 +103,11 @@ pub fn turn_fault(
         1 => card_fault(card),
         2 => length_fault(card, soil, rows),
         3 => "3 cell",
-        4 => soil_fault(&soil[5 * cell..5 * cell + 5]),
-        5 => row_fault(&rows[32 * cell..32 * cell + 32], card.delays),
-        6 if turn.life < rows[32 * cell] => "6 life lower",
+        4 => soil_fault(&soil[SOIL * cell..SOIL * (cell + 1)]),
+        5 => row_fault(&rows[ROW * cell..ROW * (cell + 1)], card.delays),
+        6 if turn.life < rows[ROW * cell] => "6 life lower",
         6 => "6 count lower",
-        7 if turn.life > rows[32 * cell] => "7 life higher and count not 0",
+        7 if turn.life > rows[ROW * cell] => "7 life higher and count not 0",
         7 => "7 count higher",
         _ if turn.life > 65_535 => "8 life",
         _ => "8 count",
@@ -119,6 +128,8 @@ pub fn refused(
     }
     if number < 8 || (number == 8 && !turn_in_range(&r.turn())) {
         tally.meet("refused for", turn_fault(number, card, soil, rows, &r.turn()));
+    } else if number == 15 {
+        tally.meet("refused for its figures", sums::passed(card, soil, rows, r));
     } else {
         tally.meet("refused for its figures", figure_fault(number, r));
     }
@@ -131,8 +142,7 @@ pub fn clearing(number: u32, card: &Card, rows: usize) -> &'static str {
         (0, 20) => "0 share 20",
         (0, _) => "0 share between",
         (1, _) => card_fault(card),
-        _ if rows < 32 * card.cells as usize => "2 rows short",
-        _ => "2 rows long",
+        _ => rows_fault(card, rows),
     }
 }
 
@@ -142,7 +152,7 @@ pub fn card_count(numbers: usize) -> &'static str {
 }
 
 /// What is wrong with a card; its share only where nothing else is.
-fn card_fault(card: &Card) -> &'static str {
+pub fn card_fault(card: &Card) -> &'static str {
     if !(1..=256).contains(&card.cells) {
         return "1 cells";
     }
@@ -169,10 +179,19 @@ fn card_fault(card: &Card) -> &'static str {
 
 fn length_fault(card: &Card, soil: &[i64], rows: &[u32]) -> &'static str {
     let cells = card.cells as usize;
-    match (soil.len(), rows.len()) {
-        (length, _) if length < 5 * cells => "2 soil short",
-        (length, _) if length > 5 * cells => "2 soil long",
-        (_, length) if length < 32 * cells => "2 rows short",
+    match soil.len() {
+        length if length < SOIL * cells => "2 soil short",
+        length if length > SOIL * cells => "2 soil long",
+        _ => rows_fault(card, rows.len()),
+    }
+}
+
+/// What is wrong with the length of a site's rows.
+pub fn rows_fault(card: &Card, length: usize) -> &'static str {
+    let cells = card.cells as usize;
+    match length {
+        length if length == OLD_ROW * cells => "2 rows without sums",
+        length if length < ROW * cells => "2 rows short",
         _ => "2 rows long",
     }
 }
@@ -196,15 +215,20 @@ fn soil_fault(soil: &[i64]) -> &'static str {
     "no soil number is out of range"
 }
 
-fn row_fault(row: &[u32], delays: u32) -> &'static str {
+/// What is wrong with a row, with sums or without; its sums only where nothing else is.
+pub fn row_fault(row: &[u32], delays: u32) -> &'static str {
     if row[0] > 65_535 {
         "5 life"
     } else if row[1] > 1_000_000 {
         "5 next count"
-    } else if row[2 + delays as usize..].iter().any(|slot| *slot > 0) {
+    } else if row[2 + delays as usize..OLD_ROW].iter().any(|slot| *slot > 0) {
         "5 slot above M"
-    } else {
+    } else if (1..=delays).any(|k| row[1 + k as usize] > slot_limit(k, delays)) {
         "5 slot above its limit"
+    } else if Sums::of(row).runoff > MOST_SUMMED {
+        "5 runoff above 10^18"
+    } else {
+        "5 drainage above 10^18"
     }
 }
 

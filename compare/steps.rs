@@ -1,16 +1,16 @@
-//! Steps, voids, clearings and sheets: the proved code through the library against the second program.
+//! Steps, voids and clearings: the proved code through the library against the second program.
 
 use crate::given::{Call, Given, Slices, both, take};
 use crate::lent::{Lent, equal, same};
 use crate::numbers::{card_numbers, card_of, reading_numbers};
 use crate::tally::Tally;
-use crate::waterbook::{AMOUNTS, CARD, NOT_THE_COUNT, ROW, SHARE_AT, SOIL, raw};
-use crate::{heads, refusals, sheets, wild};
+use crate::waterbook::{AMOUNTS, CARD, NOT_THE_COUNT, OLD_ROW, ROW, SHARE_AT, SOIL, raw};
+use crate::{refusals, wild};
 use second::head::DRY;
 use second::made::dice::Dice;
 use second::made::readings::next_reading;
 use second::made::site::Site;
-use second::made::wet::{metres_down, wet_reading, wet_site};
+use second::made::wet::metres_down;
 use second::numbers::{Card, Entry, MOST, Reading, USUAL_SHARE};
 
 /// What the sweep over every curve number must meet.
@@ -91,44 +91,6 @@ pub fn delays(tally: &mut Tally) -> Result<(), String> {
     Ok(())
 }
 
-/// Many days of a site, voids among them, each answer added to a sheet on both sides.
-pub fn run(dice: &mut Dice, tally: &mut Tally, days: u64) -> Result<(), String> {
-    let wet = dice.once_in(5);
-    let mut site = if wet { wet_site(dice) } else { Site::made(dice) };
-    let (weather, rarity) = (dice.pick(&[4, 12, 1000]), dice.pick(&[4, 20, 20, 1000]));
-    let mut given = Given::by(&site);
-    let mut slices = Slices::lend(&given);
-    let mut sums = sheets::Pair::empty();
-    for day in 0..days {
-        let mut reading = if wet {
-            // The delay falls by one each day, so that one slot gathers all.
-            let delay =
-                (u64::from(site.card.delays) - day % u64::from(site.card.delays + 1)) as u32;
-            wet_reading(&site, dice, delay, weather)
-        } else {
-            next_reading(&site, dice)
-        };
-        if dice.once_in(12) {
-            reading.head = heads::made(dice);
-        }
-        let void = dice.once_in(rarity);
-        let entry = if void { Entry::Void(reading.turn()) } else { Entry::Reading(reading) };
-        take(&mut given, &mut slices, &entry);
-        let number = both(&mut given, &mut slices, tally)
-            .map_err(|what| format!("day {day} of a run\n{what}\n{}", told(&site, &entry)))?;
-        sums.add(number, &given.amounts, tally)?;
-        site.rows.copy_from_slice(&given.rows);
-    }
-    Ok(())
-}
-
-/// What a day of a run was given, in words.
-fn told(site: &Site, entry: &Entry) -> String {
-    let cell = entry.turn().cell as usize;
-    let (plot, row) = (site.soil.chunks(SOIL).nth(cell), site.rows.chunks(ROW).nth(cell));
-    format!("card {:?}\nsoil {plot:?}\nrow {row:?}\n{entry:?}", site.card)
-}
-
 /// A site of few cells.
 pub fn small_site(dice: &mut Dice) -> Site {
     loop {
@@ -205,7 +167,8 @@ fn wrong_length(dice: &mut Dice, given: &mut Given) {
     let other = |dice: &mut Dice, right, stride| wild::other_length(dice, right, stride);
     match dice.below(7) {
         0 | 1 => given.soil.resize(other(dice, given.soil.len(), SOIL), 1),
-        2 | 3 => given.rows.resize(other(dice, given.rows.len(), ROW), 0),
+        2 => given.rows.resize(other(dice, given.rows.len(), ROW), 0),
+        3 => given.rows.truncate(given.rows.len() / ROW * OLD_ROW),
         4 => given.card.resize(other(dice, CARD, 1), 0),
         5 => given.entry.resize(other(dice, given.call.width(), 1), 0),
         _ => given.amounts.resize(other(dice, AMOUNTS, 1), 5),
@@ -224,6 +187,7 @@ pub fn clearings(dice: &mut Dice, tally: &mut Tally, times: u64) -> Result<(), S
         match dice.below(8) {
             0 => card.resize(wild::other_length(dice, CARD, 1), 0),
             1 | 2 => rows.resize(wild::other_length(dice, rows.len(), ROW), 7),
+            3 => rows.truncate(rows.len() / ROW * OLD_ROW),
             _ => {}
         }
         clearing(&card, rows, tally).map_err(|what| format!("clear\n{what}\n{card:?}"))?;

@@ -8,6 +8,8 @@ pub struct Tally {
     counts: BTreeMap<(&'static str, &'static str), u64>,
     numbers: BTreeMap<(&'static str, u32), u64>,
     pub steps: u64,
+    pub collections: u64,
+    pub moves: u64,
     pub calls: u64,
     pub texts: u64,
     pub journals: u64,
@@ -27,10 +29,10 @@ impl Tally {
 
     /// Print all counts, a line per heading.
     pub fn print(&self) {
-        let Tally { steps, calls, texts, journals, runs, .. } = self;
+        let Tally { steps, collections, moves, calls, texts, journals, runs, .. } = self;
         println!(
-            "compared: {steps} steps and voids, {texts} texts, {journals} journals, {runs} runs of waterbook, \
-             {calls} calls on outboxes"
+            "compared: {steps} steps and voids, {collections} collections, {moves} moves, {texts} texts, \
+             {journals} journals, {runs} runs of waterbook, {calls} calls on outboxes"
         );
         for call in CALLS {
             let met = self.numbers.iter().filter(|(key, _)| key.0 == call.0);
@@ -78,9 +80,12 @@ impl Tally {
 
 /// Each call with the numbers that it must give.
 const CALLS: &[(&str, &[u32])] = &[
-    ("step", &[0, 1, 2, 3, 4, 5, 6, 7, 8, 9, 10, 255]),
+    ("step", &[0, 1, 2, 3, 4, 5, 6, 7, 8, 9, 10, 15, 255]),
     ("void", &[0, 1, 2, 3, 4, 5, 6, 7, 8, 255]),
     ("clear", &[0, 1, 2, 255]),
+    ("collect", &[0, 1, 2, 3, 5, 255]),
+    ("grow", &[0, 1, 2, 5, 255]),
+    ("shrink", &[0, 1, 2, 5, 16, 255]),
     ("add", &[0, 11, 255]),
     ("read_card", &[0, 2, 12, 255]),
     ("write_card", &[0, 2, 12, 255]),
@@ -90,7 +95,7 @@ const CALLS: &[(&str, &[u32])] = &[
     ("write_void", &[0, 12, 255]),
     ("write_answer", &[0, 12, 255]),
     ("write_sheet", &[0, 12, 255]),
-    ("answer lines", &[0, 1, 2, 3, 4, 5, 6, 7, 8, 9, 10]),
+    ("answer lines", &[0, 1, 2, 3, 4, 5, 6, 7, 8, 9, 10, 15]),
     ("waterbook", &[0, 1, 3, 4, 6, 7, 8, 9, 10, 12]),
     ("outbox_fresh", &[0, 14, 255]),
     ("outbox_offer", &[0, 23, 254, 255]),

@@ -2,45 +2,82 @@
 
 use crate::courses::{Course, READINGS, TIMES};
 use crate::numbers::{amounts_numbers, card_numbers, card_of, reading_numbers, reading_of};
-use crate::waterbook::raw;
+use crate::waterbook::{ROW, raw};
 use std::time::Instant;
 
 /// Pairs of times taken for each line of a table.
 pub const PAIRS: usize = 61;
 
-/// The seconds that steps over slices take for a course, and the sum of their recharge and numbers and of the rows then.
-pub fn sliced_steps(step: Step, course: &Course, readings: &[[u32; 10]]) -> (f64, i64) {
-    let (card, soil) = (card_numbers(&course.site.card), &course.site.soil);
-    let (mut sum, mut seconds) = (0, 0.0);
-    for _ in 0..TIMES {
-        let mut rows = course.site.rows.clone();
-        let mut amounts = [0; 10];
-        let start = Instant::now();
-        for reading in readings {
-            let number = step(&card, soil, &mut rows, reading, &mut amounts);
-            sum += i64::from(number) + amounts[8];
-        }
-        seconds += start.elapsed().as_secs_f64();
-        sum += rows.iter().map(|number| i64::from(*number)).sum::<i64>();
-    }
-    (seconds, sum)
+/// A library's step over slices, and how many numbers its rows have.
+#[derive(Clone, Copy)]
+pub struct Side {
+    pub step: Step,
+    pub row: usize,
 }
 
-/// The seconds that the second's steps of a course take, and the same sum.
-pub fn second_steps(course: &Course) -> (f64, i64) {
-    let (card, soil) = (&course.site.card, &course.site.soil);
-    let (mut sum, mut seconds) = (0, 0.0);
-    for _ in 0..TIMES {
-        let mut rows = course.site.rows.clone();
+/// This library.
+pub const LIBRARY: Side = Side { step: raw::step, row: ROW };
+
+/// What steps over a course came to: their seconds, the sum of their numbers and recharge, and the rows in the end.
+#[derive(Default)]
+pub struct Ran {
+    pub seconds: f64,
+    pub sum: i64,
+    pub rows: Vec<u32>,
+}
+
+impl Ran {
+    /// Go through a course once more, from these rows.
+    fn again(&mut self, rows: Vec<u32>, steps: impl FnOnce(&mut [u32]) -> i64) {
+        self.rows = rows;
         let start = Instant::now();
-        for reading in &course.readings {
-            let (number, amounts) = second::step::step(card, soil, &mut rows, reading);
-            sum += i64::from(number) + amounts.recharge;
-        }
-        seconds += start.elapsed().as_secs_f64();
-        sum += rows.iter().map(|number| i64::from(*number)).sum::<i64>();
+        let sum = steps(&mut self.rows);
+        self.seconds += start.elapsed().as_secs_f64();
+        self.sum += sum;
     }
-    (seconds, sum)
+
+    /// The same answers as this library's, and the same rows, as far as they go?
+    pub fn alike(&self, row: usize, now: &Ran) -> bool {
+        self.sum == now.sum && self.rows == cut(&now.rows, row)
+    }
+}
+
+/// Rows of this library with so many numbers of each.
+fn cut(rows: &[u32], numbers: usize) -> Vec<u32> {
+    rows.chunks(ROW).flat_map(|row| row.iter().take(numbers)).copied().collect()
+}
+
+/// Steps over slices through a course, some times.
+pub fn sliced_steps(side: Side, course: &Course, readings: &[[u32; 10]]) -> Ran {
+    let (card, soil) = (card_numbers(&course.site.card), &course.site.soil);
+    let (rows, mut ran) = (cut(&course.site.rows, side.row), Ran::default());
+    for _ in 0..TIMES {
+        ran.again(rows.clone(), |rows| {
+            let (mut amounts, mut sum) = ([0; 10], 0);
+            for reading in readings {
+                let number = (side.step)(&card, soil, rows, reading, &mut amounts);
+                sum += i64::from(number) + amounts[8];
+            }
+            sum
+        });
+    }
+    ran
+}
+
+/// The second's steps through a course, as often.
+pub fn second_steps(course: &Course) -> Ran {
+    let (card, soil, mut ran) = (&course.site.card, &course.site.soil, Ran::default());
+    for _ in 0..TIMES {
+        ran.again(course.site.rows.clone(), |rows| {
+            let mut sum = 0;
+            for reading in &course.readings {
+                let (number, amounts) = second::step::step(card, soil, rows, reading);
+                sum += i64::from(number) + amounts.recharge;
+            }
+            sum
+        });
+    }
+    ran
 }
 
 /// The second's step over the library's slices, as a host would call it that has nothing else.
@@ -94,21 +131,22 @@ pub fn pairs(count: usize, mut one: impl FnMut() -> f64, mut other: impl FnMut()
 /// The readings of a course in numbers; the library and the second program must answer them alike.
 pub fn in_numbers(course: &Course) -> Vec<[u32; 10]> {
     let readings: Vec<[u32; 10]> = course.readings.iter().map(reading_numbers).collect();
-    let same = sliced_steps(raw::step, course, &readings).1 == second_steps(course).1;
+    let same = second_steps(course).alike(ROW, &sliced_steps(LIBRARY, course, &readings));
     assert!(same, "the two sides of the race answer alike");
     readings
 }
 
 /// The pairs of times of a step over slices and of the second's step over its own records.
-pub fn step_pairs(step: Step, course: &Course) -> Pairs {
+pub fn step_pairs(side: Side, course: &Course) -> Pairs {
     let readings = in_numbers(course);
-    pairs(PAIRS, || sliced_steps(step, course, &readings).0, || second_steps(course).0)
+    let time = || sliced_steps(side, course, &readings).seconds;
+    pairs(PAIRS, time, || second_steps(course).seconds)
 }
 
 /// The pairs of times of two steps over the same slices.
-pub fn sliced_pairs(one: Step, other: Step, course: &Course) -> Pairs {
+pub fn sliced_pairs(one: Side, other: Side, course: &Course) -> Pairs {
     let readings = in_numbers(course);
-    let time = |step| sliced_steps(step, course, &readings).0;
+    let time = |side| sliced_steps(side, course, &readings).seconds;
     pairs(PAIRS, || time(one), || time(other))
 }
 

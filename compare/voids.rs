@@ -4,6 +4,7 @@ use crate::given::{Given, Slices, both, take};
 use crate::steps::site_of_delays;
 use crate::tally::Tally;
 use second::numbers::{Amounts, Card, Entry, Void, slot_limit};
+use second::sums::{MOST_SUMMED, Sums};
 
 /// What accepted voids must be met for.
 pub const VOIDS: &[&str] = &[
@@ -18,6 +19,9 @@ pub const VOIDS: &[&str] = &[
     "share 5",
     "share between",
     "share 20",
+    "sums of 0",
+    "sums that are not 0",
+    "a sum of 10^18",
 ];
 
 /// Note what an accepted void came to, given the life that its row had before.
@@ -40,6 +44,16 @@ pub fn accepted(card: &Card, life: Option<u32>, void: &Void, answer: &Amounts, t
     }
     if void.count == 999_999 {
         tally.meet("voids", "the last count");
+    }
+}
+
+/// Note what sums an accepted void was given over; it keeps them.
+pub fn kept(before: Option<Sums>, tally: &mut Tally) {
+    let Some(before) = before else { return };
+    let none = before == Sums::default();
+    tally.meet("voids", if none { "sums of 0" } else { "sums that are not 0" });
+    if before.runoff == MOST_SUMMED || before.drainage == MOST_SUMMED {
+        tally.meet("voids", "a sum of 10^18");
     }
 }
 

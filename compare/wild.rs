@@ -2,9 +2,11 @@
 
 use crate::branches::{first_loss, rain_at_the_edge};
 use crate::heads;
-use crate::waterbook::SHARE_AT;
+use crate::waterbook::{OLD_ROW, ROW, SHARE_AT};
 use second::made::dice::Dice;
+use second::made::sums::made_sums;
 use second::numbers::slot_limit;
+use second::sums::{MOST_SUMMED, Sums};
 use std::sync::OnceLock;
 
 /// Any 32-bit number, small ones and edges as often as large ones.
@@ -65,7 +67,7 @@ pub fn soil(dice: &mut Dice, plot: &mut [i64]) {
     plot[which] = dice.pick(&[low, high, low - 1, high + 1, any]);
 }
 
-/// A row in range: slots from empty to full.
+/// A row in range: slots from empty to full, sums half of the time.
 pub fn fair_row(dice: &mut Dice, row: &mut [u32], delays: u32) {
     row[0] = dice.pick(&[0, 0, 0, 3, 65_534, 65_535]);
     row[1] = dice.pick(&[0, 0, 1, 7, 999_998, 999_999, 1_000_000]);
@@ -79,10 +81,30 @@ pub fn fair_row(dice: &mut Dice, row: &mut [u32], delays: u32) {
             _ => dice.below(3000) as u32,
         };
     }
+    let sums = if dice.once_in(2) { made_sums(dice) } else { Sums::default() };
+    sums.write(row);
 }
 
-/// A number of a row put at its limit or beyond.
+/// Rows in range.
+pub fn fair_rows(dice: &mut Dice, rows: &mut [u32], delays: u32) {
+    rows.chunks_mut(ROW).for_each(|row| fair_row(dice, row, delays));
+}
+
+/// A sum of a row, by its high and low number, put at 10^18, beside it or far beyond.
+fn sum(dice: &mut Dice, two: &mut [u32]) {
+    let any = [any(dice), any(dice)];
+    let (high, low) = ((MOST_SUMMED >> 32) as u32, MOST_SUMMED as u32);
+    let near = [[high, low], [high, low + 1], [high, low - 1], [high, u32::MAX], [high + 1, 0]];
+    let beside = dice.pick(&near);
+    two.copy_from_slice(&dice.pick(&[beside, beside, [high - 1, u32::MAX], [u32::MAX; 2], any]));
+}
+
+/// A number of a row, with sums or without, put at its limit or beyond.
 pub fn row(dice: &mut Dice, row: &mut [u32], delays: u32) {
+    if row.len() > OLD_ROW && dice.once_in(3) {
+        let place = OLD_ROW + dice.pick(&[0, 2]);
+        return sum(dice, &mut row[place..place + 2]);
+    }
     let any = any(dice);
     let k = 1 + dice.below(30) as u32;
     let limit = slot_limit(k, delays.min(30));
@@ -127,6 +149,12 @@ pub fn reading(dice: &mut Dice, reading: &mut [u32], cn: i64, share: u32) {
         11 => reading[dice.place(10)] = any,
         _ => reading[9] = heads::made(dice),
     }
+}
+
+/// Any unsigned 64-bit number, small ones and edges as often as large ones.
+pub fn any_sum(dice: &mut Dice) -> u64 {
+    let some = dice.roll() >> dice.below(64);
+    dice.pick(&[some, some, 0, 1, MOST_SUMMED, u64::MAX])
 }
 
 /// Another length than the right one.

@@ -3,8 +3,8 @@
 //! include/waterbook.h says in words what each number means; the order of the numbers is the same here. A record is an
 //! array of its own width, a refused call an `Err` with its [`Refusal`]. [`raw`] has the same calls over slices of any
 //! width, with the number as it comes. The library keeps nothing between calls: rows and sheet are the host's, and
-//! STORING.md says when to store them. The header also says what a host of 2.x has to change for 3.0.0: a [`Card`] has
-//! 33 numbers in place of 32, the share last, and [`card`] makes one from its parts.
+//! STORING.md says when to store them, and when to [`collect`] the sums that rows keep. The header also says what a host
+//! of 3.x has to change for 4.0.0: a row has 36 numbers in place of 32, and [`grow`] moves a site's rows over.
 //!
 //! rust/ is a package of this file: a firm's own package names it by path. Plain `rustc --edition 2024` takes this file
 //! as a module and finds the library by `-L native=target/staticlib`, after `rt staticlib gateway`; hosts/host.rs is such
@@ -40,13 +40,17 @@
 //! let fitted = waterbook::card(1, &[1_000_000], 5)?;
 //! let next = [0, 0, 1, 50_800, 0, 0, 2_000, 5_000, 2, 8.75f32.to_bits()];
 //! assert_eq!(waterbook::step(&fitted, &soil, &mut rows, &next)?[1], 20_410);
+//!
+//! // At the month's end, what ran off plot 0 and what drained from it; from then on the row counts anew.
+//! assert_eq!(waterbook::collect(&card, &mut rows, 0), Ok([14_287 + 20_410, 0]));
+//! assert_eq!(waterbook::collect(&card, &mut rows, 0), Ok([0, 0]));
 //! # Ok::<(), Refusal>(())
 //! ```
 
 use core::fmt;
 
 /// The version of the library; include/waterbook.h says what raises which part.
-pub const VERSION_MAJOR: u32 = 3;
+pub const VERSION_MAJOR: u32 = 4;
 pub const VERSION_MINOR: u32 = 0;
 pub const VERSION_PATCH: u32 = 0;
 /// The version as one number.
@@ -56,8 +60,12 @@ pub const VERSION: u32 = 1_000_000 * VERSION_MAJOR + 1_000 * VERSION_MINOR + VER
 pub const CARD: usize = 33;
 /// Soil numbers per cell: top, etdepth, vadpor, leak, cn.
 pub const SOIL: usize = 5;
-/// Stored numbers per cell: life, next count, slots 1 to 30.
-pub const ROW: usize = 32;
+/// Stored numbers per cell: life, next count, slots 1 to 30, the sums of runoff and of drainage, high and low of each.
+pub const ROW: usize = 36;
+/// Stored numbers per cell up to version 3: the same without the sums.
+pub const OLD_ROW: usize = 32;
+/// Sums that collecting a cell gives: runoff, drainage.
+pub const SUMS: usize = 2;
 /// Numbers in a reading: cell, life, count, rain, irrig, septic, etmin, pet, amc, the head's 32 bits.
 pub const READING: usize = 10;
 /// Numbers in the notice of a void: cell, life, count.
@@ -93,6 +101,9 @@ pub const SHEET_TEXT: usize = 270;
 pub const STACK_STEP: usize = 832;
 pub const STACK_VOID: usize = 832;
 pub const STACK_CLEAR: usize = 208;
+pub const STACK_COLLECT: usize = 240;
+pub const STACK_GROW: usize = 512;
+pub const STACK_SHRINK: usize = 512;
 pub const STACK_ADD: usize = 208;
 pub const STACK_READ_CARD: usize = 1_088;
 pub const STACK_WRITE_CARD: usize = 1_920;
@@ -102,11 +113,12 @@ pub const STACK_READ_VOID: usize = 320;
 pub const STACK_WRITE_VOID: usize = 800;
 pub const STACK_WRITE_ANSWER: usize = 1_600;
 pub const STACK_WRITE_SHEET: usize = 1_536;
-pub const STACK_BOOK: usize = 45_056;
+pub const STACK_BOOK: usize = 49_152;
 
 /// The number of a raw call that was accepted.
 pub const ACCEPTED: u32 = 0;
-/// The number of a raw call where a card, reading, notice, amounts, sheet or got slice has another count of numbers.
+/// The number of a raw call where a card, reading, notice, amounts, sums, sheet or got slice has another count of
+/// numbers.
 pub const NOT_THE_COUNT: u32 = 255;
 
 /// A card's numbers; [`card`] makes them from its parts.
@@ -117,6 +129,8 @@ pub type Reading = [u32; READING];
 pub type Notice = [u32; NOTICE];
 /// The amounts of an accepted reading or void, in µm.
 pub type Amounts = [i64; AMOUNTS];
+/// The sums that were kept of a cell since it was last collected, in µm: runoff, drainage.
+pub type Sums = [u64; SUMS];
 /// A sheet's numbers; zeros are an empty sheet.
 pub type Sheet = [i64; SHEET];
 /// What a step answers: amounts, or why the reading or void was refused.
@@ -128,13 +142,14 @@ pub type Answer = Result<Amounts, Refusal>;
 pub enum Refusal {
     /// The card is out of range, its share too, its depths do not rise, or an unused place is not 0.
     BadCard = 1,
-    /// The soil slice has not 5 numbers per cell (for reading a card: has fewer), or the row slice not 32.
+    /// The soil slice has not 5 numbers per cell (for reading a card: has fewer), the row slice not 36, or a move's old
+    /// rows not 32.
     BadLengths = 2,
     /// The cell number is not below cells.
     BadCell = 3,
     /// A soil number of that cell is out of range.
     BadSoil = 4,
-    /// That cell's row is out of range.
+    /// That cell's row is out of range; for a move, any row of the site.
     BadRow = 5,
     /// Old: the life is lower, or the same with a count lower than next.
     Old = 6,
@@ -151,10 +166,14 @@ pub enum Refusal {
     NotAddable = 11,
     /// The text is malformed, or there is nothing that can be written.
     Malformed = 12,
+    /// The cell's runoff or drainage would pass 10^18 µm since it was last collected: collect it, and step again.
+    SumFull = 15,
+    /// A sum of the site is not 0: before a move back, every cell is to be collected.
+    NotCollected = 16,
 }
 
 impl Refusal {
-    /// All refusals, in the order of their numbers from 1.
+    /// All refusals, in the order of their numbers.
     pub const ALL: &'static [Refusal] = &[
         Refusal::BadCard,
         Refusal::BadLengths,
@@ -168,6 +187,8 @@ impl Refusal {
         Refusal::InactiveHead,
         Refusal::NotAddable,
         Refusal::Malformed,
+        Refusal::SumFull,
+        Refusal::NotCollected,
     ];
 
     /// The library's number for it.
@@ -196,6 +217,8 @@ impl fmt::Display for Refusal {
             Refusal::InactiveHead => "the head is marked inactive",
             Refusal::NotAddable => "the answer cannot be added to the sheet",
             Refusal::Malformed => "the text is malformed, or cannot be written",
+            Refusal::SumFull => "a sum of the cell would pass its limit: collect it first",
+            Refusal::NotCollected => "a sum of the site is not collected",
         })
     }
 }
@@ -268,6 +291,22 @@ pub fn void(card: &Card, soil: &[i64], rows: &mut [u32], notice: &Notice) -> Ans
 /// Set all rows of the site to 0, once, before its first reading or void.
 pub fn clear(card: &Card, rows: &mut [u32]) -> Result<(), Refusal> {
     accepted(raw::clear(card, rows))
+}
+
+/// Collect a cell: what ran off and what drained since the last time, both set to 0 in its row. Refused, the rows stay.
+pub fn collect(card: &Card, rows: &mut [u32], cell: u32) -> Result<Sums, Refusal> {
+    let mut sums = [0; SUMS];
+    accepted(raw::collect(card, rows, cell, &mut sums)).map(|()| sums)
+}
+
+/// Move a site over from the rows of version 3, [`OLD_ROW`] numbers a cell, with all sums at 0. Refused, `rows` stays.
+pub fn grow(card: &Card, old: &[u32], rows: &mut [u32]) -> Result<(), Refusal> {
+    accepted(raw::grow(card, old, rows))
+}
+
+/// Move a site back to the rows of version 3, once every cell is collected. Refused, `old` stays.
+pub fn shrink(card: &Card, rows: &[u32], old: &mut [u32]) -> Result<(), Refusal> {
+    accepted(raw::shrink(card, rows, old))
 }
 
 /// Add an answer to a sheet: a refused one is not addable, and the sheet stays as it came.
@@ -374,6 +413,30 @@ pub mod raw {
         }
     }
 
+    /// Collect a cell: its number, and runoff and drainage in `sums`, zeros where refused.
+    #[rustfmt::skip]
+    pub fn collect(card: &[u32], rows: &mut [u32], cell: u32, sums: &mut [u64]) -> u32 {
+        unsafe {
+            library::waterbook_collect(card.as_ptr(), card.len(), rows.as_mut_ptr(), rows.len(), cell, sums.as_mut_ptr(), sums.len())
+        }
+    }
+
+    /// Move a site over from rows of 32 numbers a cell: 0, or 1, 2 or 5 and `rows` as it came.
+    #[rustfmt::skip]
+    pub fn grow(card: &[u32], old: &[u32], rows: &mut [u32]) -> u32 {
+        unsafe {
+            library::waterbook_grow(card.as_ptr(), card.len(), old.as_ptr(), old.len(), rows.as_mut_ptr(), rows.len())
+        }
+    }
+
+    /// Move a site back to rows of 32 numbers a cell: 0, or 1, 2, 5 or 16 and `old` as it came.
+    #[rustfmt::skip]
+    pub fn shrink(card: &[u32], rows: &[u32], old: &mut [u32]) -> u32 {
+        unsafe {
+            library::waterbook_shrink(card.as_ptr(), card.len(), rows.as_ptr(), rows.len(), old.as_mut_ptr(), old.len())
+        }
+    }
+
     /// Add an answer, its number and amounts, to a sheet: 0, or 11 and the sheet as it came.
     #[rustfmt::skip]
     pub fn add(sheet: &mut [i64], number: u32, amounts: &[i64]) -> u32 {
@@ -461,6 +524,9 @@ mod library {
         pub fn waterbook_step(card: *const u32, card_len: usize, soil: *const i64, soil_len: usize, rows: *mut u32, rows_len: usize, reading: *const u32, reading_len: usize, amounts: *mut i64, amounts_len: usize) -> u32;
         pub fn waterbook_void(card: *const u32, card_len: usize, soil: *const i64, soil_len: usize, rows: *mut u32, rows_len: usize, notice: *const u32, notice_len: usize, amounts: *mut i64, amounts_len: usize) -> u32;
         pub fn waterbook_clear(card: *const u32, card_len: usize, rows: *mut u32, rows_len: usize) -> u32;
+        pub fn waterbook_collect(card: *const u32, card_len: usize, rows: *mut u32, rows_len: usize, cell: u32, sums: *mut u64, sums_len: usize) -> u32;
+        pub fn waterbook_grow(card: *const u32, card_len: usize, old: *const u32, old_len: usize, rows: *mut u32, rows_len: usize) -> u32;
+        pub fn waterbook_shrink(card: *const u32, card_len: usize, rows: *const u32, rows_len: usize, old: *mut u32, old_len: usize) -> u32;
         pub fn waterbook_add(sheet: *mut i64, sheet_len: usize, number: u32, amounts: *const i64, amounts_len: usize) -> u32;
         pub fn waterbook_read_card(text: *const u8, text_len: usize, card: *mut u32, card_len: usize, soil: *mut i64, soil_len: usize, got: *mut usize, got_len: usize) -> u32;
         pub fn waterbook_write_card(card: *const u32, card_len: usize, soil: *const i64, soil_len: usize, buf: *mut u8, buf_len: usize, got: *mut usize, got_len: usize) -> u32;

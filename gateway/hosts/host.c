@@ -1,5 +1,6 @@
 /* A host in C: keeps the book of the rules page's example, with a day of rain and a void after it, through the proved
- * library; and once more with a share of 5 on its card.
+ * library, collects what ran off and drained, and moves its rows back and over; and once more with a share of 5 on its
+ * card.
  * host-c               the two examples
  * host-c SEED CALLS    so many random calls, wrong counts of numbers among them; for valgrind */
 #include <inttypes.h>
@@ -109,24 +110,51 @@ static size_t keep_entry(struct site *site, const uint8_t *text, size_t text_len
 }
 
 /* A whole journal by single calls: 0, or the number that stopped it. */
-static uint32_t keep_book(const uint8_t *text, size_t text_len, struct page *page) {
-    static struct site site;
+static uint32_t keep_book(struct site *site, const uint8_t *text, size_t text_len, struct page *page) {
     size_t got[WATERBOOK_GOT];
-    memset(site.sheet, 0, sizeof site.sheet);
-    uint32_t number = waterbook_read_card(text, text_len, site.card, WATERBOOK_CARD, site.soil,
+    memset(site->sheet, 0, sizeof site->sheet);
+    uint32_t number = waterbook_read_card(text, text_len, site->card, WATERBOOK_CARD, site->soil,
                                           WATERBOOK_SOIL * WATERBOOK_CELLS, got, WATERBOOK_GOT);
     if (number != WATERBOOK_ACCEPTED)
         return number;
     size_t at = got[0];
-    site.soil_len = WATERBOOK_SOIL * site.card[0];
-    site.rows_len = WATERBOOK_ROW * site.card[0];
-    number = waterbook_clear(site.card, WATERBOOK_CARD, site.rows, site.rows_len);
+    site->soil_len = WATERBOOK_SOIL * site->card[0];
+    site->rows_len = WATERBOOK_ROW * site->card[0];
+    number = waterbook_clear(site->card, WATERBOOK_CARD, site->rows, site->rows_len);
     while (number == WATERBOOK_ACCEPTED && at < text_len) {
-        size_t taken = keep_entry(&site, text + at, text_len - at, page);
+        size_t taken = keep_entry(site, text + at, text_len - at, page);
         number = taken == 0 ? WATERBOOK_MALFORMED : WATERBOOK_ACCEPTED;
         at += taken;
     }
-    return number == WATERBOOK_ACCEPTED ? put_sheet(page, site.sheet) : number;
+    return number == WATERBOOK_ACCEPTED ? put_sheet(page, site->sheet) : number;
+}
+
+/* Does collecting plot 0 give this runoff and drainage? */
+static int gives(struct site *site, int64_t runoff, int64_t drainage) {
+    uint64_t sums[WATERBOOK_SUMS];
+    uint32_t number =
+        waterbook_collect(site->card, WATERBOOK_CARD, site->rows, site->rows_len, 0, sums, WATERBOOK_SUMS);
+    return number == WATERBOOK_ACCEPTED && sums[0] == (uint64_t)runoff && sums[1] == (uint64_t)drainage;
+}
+
+/* The rows of a site moved back to the form of version 3, into a slice for as many cells: the number. */
+static uint32_t move_back(const struct site *site, uint32_t *old) {
+    return waterbook_shrink(site->card, WATERBOOK_CARD, site->rows, site->rows_len, old,
+                            WATERBOOK_OLD_ROW * site->card[0]);
+}
+
+/* A site of one plot is collected: what comes is what its sheet has, and nothing is left. Only then its rows go back,
+ * and over again into a fresh slice they are the same. */
+static int collects_and_moves(struct site *site) {
+    static uint32_t old[WATERBOOK_OLD_ROW], rows[WATERBOOK_ROW];
+    int64_t runoff = site->sheet[2], drainage = site->sheet[6];
+    if (move_back(site, old) != WATERBOOK_NOT_COLLECTED || !gives(site, runoff, drainage) || !gives(site, 0, 0))
+        return 0;
+    if (move_back(site, old) != WATERBOOK_ACCEPTED ||
+        waterbook_grow(site->card, WATERBOOK_CARD, old, WATERBOOK_OLD_ROW, rows, WATERBOOK_ROW) != WATERBOOK_ACCEPTED)
+        return 0;
+    printf("host.c: collected runoff=%" PRId64 " drainage=%" PRId64 ", moved back and over\n", runoff, drainage);
+    return memcmp(rows, site->rows, sizeof rows) == 0;
 }
 
 /* Is this text the example's book? */
@@ -149,8 +177,9 @@ static int same_in_one_call(const struct example *example) {
 /* Does the host keep the example's book? */
 static int keeps(const struct example *example) {
     static struct page page;
+    static struct site site;
     page.length = 0;
-    uint32_t number = keep_book((const uint8_t *)example->journal, strlen(example->journal), &page);
+    uint32_t number = keep_book(&site, (const uint8_t *)example->journal, strlen(example->journal), &page);
     if (number != WATERBOOK_ACCEPTED) {
         fprintf(stderr, "host.c: %s was refused with %" PRIu32 "\n", example->name, number);
         return 0;
@@ -161,6 +190,10 @@ static int keeps(const struct example *example) {
         return 0;
     }
     printf("host.c: the book of %s, by single calls and in one\n", example->name);
+    if (!collects_and_moves(&site)) {
+        fprintf(stderr, "host.c: it is not collected as its sheet says, or not moved back and over\n");
+        return 0;
+    }
     return 1;
 }
 
@@ -207,14 +240,28 @@ static int64_t *any_soil(size_t count) {
     return soil;
 }
 
-static uint32_t *any_rows(size_t count) {
+/* Put a sum into one of the rows: any in range, or one so near 10^18 that a step may pass it. */
+static void any_sum(uint32_t *rows, size_t cells) {
+    size_t place = WATERBOOK_ROW * below(cells);
+    place += WATERBOOK_OLD_ROW + 2 * below(2);
+    uint64_t sum = any_number() % 1000000000000000001u;
+    if (below(2) == 0)
+        sum = 1000000000000000000u - below(200000);
+    rows[place] = (uint32_t)(sum >> 32);
+    rows[place + 1] = (uint32_t)sum;
+}
+
+/* Rows with so many numbers per cell. */
+static uint32_t *any_rows(size_t count, size_t width) {
     uint32_t *rows = lend(count * sizeof *rows);
     for (size_t i = 0; i < count; i++)
-        rows[i] = i % 32 < 2 ? (uint32_t)below(3) : 0;
+        rows[i] = i % width < 2 ? (uint32_t)below(3) : 0;
     if (count > 2 && below(2) == 0) {
         size_t place = 2 + below(count - 2);
         rows[place] = (uint32_t)below(2000001);
     }
+    if (width == WATERBOOK_ROW && count >= width && below(3) == 0)
+        any_sum(rows, count / width);
     if (count > 0 && below(12) == 0) {
         size_t place = below(count);
         rows[place] = (uint32_t)any_number();
@@ -259,7 +306,7 @@ static void call_step(enum kind kind) {
     size_t soil_len = count_of(WATERBOOK_SOIL * cells_of(card, card_len));
     size_t rows_len = count_of(WATERBOOK_ROW * cells_of(card, card_len));
     int64_t *soil = any_soil(soil_len), *amounts = lend(amounts_len * sizeof *amounts);
-    uint32_t *rows = any_rows(rows_len);
+    uint32_t *rows = any_rows(rows_len, WATERBOOK_ROW);
     /* The amounts come unset: the library must not look at them. */
     if (kind == NOTICE)
         number = waterbook_void(card, card_len, soil, soil_len, rows, rows_len, entry, entry_len, amounts, amounts_len);
@@ -275,10 +322,39 @@ static void call_clear(void) {
     size_t card_len = count_of(WATERBOOK_CARD);
     uint32_t *card = any_card(card_len);
     size_t rows_len = count_of(WATERBOOK_ROW * cells_of(card, card_len));
-    uint32_t *rows = any_rows(rows_len);
+    uint32_t *rows = any_rows(rows_len, WATERBOOK_ROW);
     uint32_t number = waterbook_clear(card, card_len, rows, rows_len);
     note(number, rows, rows_len * sizeof *rows);
     free(card), free(rows);
+}
+
+static void call_collect(void) {
+    size_t card_len = count_of(WATERBOOK_CARD), sums_len = count_of(WATERBOOK_SUMS);
+    uint32_t *card = any_card(card_len), cell = number_to(5);
+    size_t rows_len = count_of(WATERBOOK_ROW * cells_of(card, card_len));
+    uint32_t *rows = any_rows(rows_len, WATERBOOK_ROW);
+    uint64_t *sums = lend(sums_len * sizeof *sums);
+    /* The sums come unset: the library must not look at them. */
+    uint32_t number = waterbook_collect(card, card_len, rows, rows_len, cell, sums, sums_len);
+    note(number, rows, rows_len * sizeof *rows);
+    if (number != WATERBOOK_NOT_THE_COUNT)
+        note(number, sums, sums_len * sizeof *sums);
+    free(card), free(rows), free(sums);
+}
+
+/* A move over or back. Where rows are written something stands before, which must stay where the move is refused. */
+static void call_move(int over) {
+    size_t from = over ? WATERBOOK_OLD_ROW : WATERBOOK_ROW, to = over ? WATERBOOK_ROW : WATERBOOK_OLD_ROW;
+    size_t card_len = count_of(WATERBOOK_CARD);
+    uint32_t *card = any_card(card_len), number;
+    size_t taken_len = count_of(from * cells_of(card, card_len)), written_len = count_of(to * cells_of(card, card_len));
+    uint32_t *taken = any_rows(taken_len, from), *written = any_rows(written_len, to);
+    if (over)
+        number = waterbook_grow(card, card_len, taken, taken_len, written, written_len);
+    else
+        number = waterbook_shrink(card, card_len, taken, taken_len, written, written_len);
+    note(number, written, written_len * sizeof *written);
+    free(card), free(taken), free(written);
 }
 
 static void call_add(void) {
@@ -288,7 +364,7 @@ static void call_add(void) {
         sheet[i] = (int64_t)below(1000);
     for (size_t i = 0; i < amounts_len; i++)
         amounts[i] = below(60) == 0 ? any_signed() : (int64_t)below(30000000001u);
-    uint32_t answered = below(20) == 0 ? (uint32_t)below(13) : 0;
+    uint32_t answered = below(20) == 0 ? (uint32_t)below(17) : 0;
     uint32_t number = waterbook_add(sheet, sheet_len, answered, amounts, amounts_len);
     note(number, sheet, sheet_len * sizeof *sheet);
     free(sheet), free(amounts);
@@ -374,7 +450,7 @@ static int64_t *any_amounts(size_t count, int zeros) {
 /* The line of an answer or a sheet. */
 static void call_line(int of_answer) {
     size_t numbers_len = count_of(of_answer ? WATERBOOK_AMOUNTS : WATERBOOK_SHEET), got_len = count_of(WATERBOOK_GOT);
-    uint32_t cell = number_to(255), answered = below(2) == 0 ? number_to(12) : 0, number;
+    uint32_t cell = number_to(255), answered = below(2) == 0 ? number_to(16) : 0, number;
     int64_t *numbers = any_amounts(numbers_len, of_answer && answered != 0 && below(4) != 0);
     size_t buf_len = below(2) == 0 ? below(300) : 300;
     uint8_t *buf = lend(buf_len);
@@ -398,7 +474,7 @@ static void call_book(void) {
 }
 
 static void call_any(void) {
-    switch (below(16)) {
+    switch (below(19)) {
     case 0: call_clear(); break;
     case 1: call_add(); break;
     case 2: call_read(CARD); break;
@@ -411,6 +487,9 @@ static void call_any(void) {
     case 9: call_line(1); break;
     case 10: call_line(0); break;
     case 11: case 12: call_step(NOTICE); break;
+    case 13: call_collect(); break;
+    case 14: call_move(1); break;
+    case 15: call_move(0); break;
     default: call_step(READING); break;
     }
 }

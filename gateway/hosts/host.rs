@@ -1,14 +1,14 @@
 //! A host in Rust: keeps the book of the rules page's example, with a day of rain and a void after it, through the
-//! proved library; and once more with a share of 5 on its card.
+//! proved library, collects what ran off and drained, and moves its rows back and over; and once more with a share of 5
+//! on its card.
 
 #[allow(dead_code)]
 #[path = "../waterbook.rs"]
 mod waterbook;
 
 use std::process::ExitCode;
-use waterbook::{
-    ANSWER_TEXT, Answer, CELLS, Card, ROW, Refusal, SHEET, SHEET_TEXT, SOIL, USUAL_SHARE, book_room,
-};
+use waterbook::{ANSWER_TEXT, Answer, CELLS, Card, OLD_ROW, ROW, Refusal};
+use waterbook::{SHEET, SHEET_TEXT, SOIL, Sheet, Sums, USUAL_SHARE, book_room};
 
 /// A card without its line's end.
 const CARD_LINE: &str = "cells=1 delays=2 depth=1000000 depth=2000000";
@@ -68,8 +68,8 @@ fn enter(site: &mut Site, text: &[u8]) -> Result<(u32, Answer, usize), Refusal> 
     Ok((reading[0], waterbook::step(card, soil, rows, &reading), taken))
 }
 
-/// Step through the entries: a line for each, then the sheet.
-fn keep(site: &mut Site, mut entries: &[u8]) -> Result<Vec<u8>, Refusal> {
+/// Step through the entries: a line for each, then the sheet, as text and in numbers.
+fn keep(site: &mut Site, mut entries: &[u8]) -> Result<(Vec<u8>, Sheet), Refusal> {
     let mut book = Vec::new();
     let mut sheet = [0; SHEET];
     while !entries.is_empty() {
@@ -85,26 +85,37 @@ fn keep(site: &mut Site, mut entries: &[u8]) -> Result<Vec<u8>, Refusal> {
     let mut line = [0; SHEET_TEXT];
     let length = waterbook::write_sheet(&sheet, &mut line)?;
     book.extend(&line[..length]);
-    Ok(book)
+    Ok((book, sheet))
 }
 
-/// A journal's card, its book through single calls, and its book in one call.
-fn both_books(journal: &str) -> Result<(Card, String, String), Refusal> {
-    let (mut site, entries) = open(journal.as_bytes())?;
-    let kept = keep(&mut site, entries)?;
+/// Collect plot 0, until nothing is left; then move the rows back to the form of version 3 and over again, which before
+/// was refused. What was collected first, or nothing where something else came than it should.
+fn collect_and_move(site: &mut Site) -> Result<Option<Sums>, Refusal> {
+    let Site { card, rows, .. } = site;
+    let (mut old, mut over) = (vec![0; rows.len() / ROW * OLD_ROW], vec![0; rows.len()]);
+    let early = waterbook::shrink(card, rows, &mut old);
+    let (sums, rest) = (waterbook::collect(card, rows, 0)?, waterbook::collect(card, rows, 0)?);
+    waterbook::shrink(card, rows, &mut old)?;
+    waterbook::grow(card, &old, &mut over)?;
+    let right = early == Err(Refusal::NotCollected) && rest == [0, 0] && over == *rows;
+    Ok(right.then_some(sums))
+}
+
+/// The book of a journal in one call.
+fn in_one_call(journal: &str) -> String {
     let mut whole = vec![0; book_room(journal.len())];
     let length = waterbook::book(journal.as_bytes(), &mut whole).unwrap_or(0);
-    whole.truncate(length);
-    let text = |bytes: Vec<u8>| String::from_utf8_lossy(&bytes).into_owned();
-    Ok((site.card, text(kept), text(whole)))
+    String::from_utf8_lossy(&whole[..length]).into_owned()
 }
 
 /// Does the host keep this book over a card with this share, whose line ends so?
 fn keeps(share: u32, end: &str, book: &str) -> Result<bool, Refusal> {
     let journal = format!("{CARD_LINE}{end}\n{OTHER_LINES}");
-    let (card, kept, whole) = both_books(&journal)?;
+    let (mut site, entries) = open(journal.as_bytes())?;
+    let (kept, sheet) = keep(&mut site, entries)?;
+    let (kept, whole) = (String::from_utf8_lossy(&kept), in_one_call(&journal));
     print!("{kept}");
-    if card != waterbook::card(1, &[1_000_000, 2_000_000], share)? {
+    if site.card != waterbook::card(1, &[1_000_000, 2_000_000], share)? {
         eprintln!("host.rs: the card read is not the one made from its parts");
         return Ok(false);
     }
@@ -113,6 +124,14 @@ fn keeps(share: u32, end: &str, book: &str) -> Result<bool, Refusal> {
         return Ok(false);
     }
     println!("host.rs: the book with a share of {share}, by single calls and in one");
+    let (collected, wanted) = (collect_and_move(&mut site)?, [sheet[2], sheet[6]]);
+    if collected.map(|sums| sums.map(|sum| sum as i64)) != Some(wanted) {
+        eprintln!(
+            "host.rs: {wanted:?} should have been collected, and the rows moved back and over"
+        );
+        return Ok(false);
+    }
+    println!("host.rs: collected {wanted:?}, moved back and over");
     Ok(true)
 }
 

@@ -11,10 +11,12 @@
 /* What the calls are lent: the records with their counts, and the counts of the text and the buffer. */
 struct lent {
     uint32_t card[WATERBOOK_CARD], reading[WATERBOOK_READING], notice[WATERBOOK_NOTICE];
-    uint32_t rows[WATERBOOK_ROW * WATERBOOK_CELLS];
+    uint32_t rows[WATERBOOK_ROW * WATERBOOK_CELLS], old[WATERBOOK_OLD_ROW * WATERBOOK_CELLS];
     int64_t soil[WATERBOOK_SOIL * WATERBOOK_CELLS], amounts[WATERBOOK_AMOUNTS], sheet[WATERBOOK_SHEET];
+    uint64_t sums[WATERBOOK_SUMS];
     size_t got[WATERBOOK_GOT];
-    size_t card_len, reading_len, notice_len, rows_len, soil_len, amounts_len, sheet_len, got_len, text_len, buf_len;
+    size_t card_len, reading_len, notice_len, rows_len, old_len, soil_len, amounts_len, sums_len, sheet_len, got_len;
+    size_t text_len, buf_len;
     uint32_t cell, answered;
 };
 
@@ -35,6 +37,18 @@ static void make_void(void) {
 }
 
 static void make_clear(void) { number = waterbook_clear(lent.card, lent.card_len, lent.rows, lent.rows_len); }
+
+static void make_collect(void) {
+    number = waterbook_collect(lent.card, lent.card_len, lent.rows, lent.rows_len, lent.cell, lent.sums, lent.sums_len);
+}
+
+static void make_grow(void) {
+    number = waterbook_grow(lent.card, lent.card_len, lent.old, lent.old_len, lent.rows, lent.rows_len);
+}
+
+static void make_shrink(void) {
+    number = waterbook_shrink(lent.card, lent.card_len, lent.rows, lent.rows_len, lent.old, lent.old_len);
+}
 
 static void make_add(void) {
     number = waterbook_add(lent.sheet, lent.sheet_len, lent.answered, lent.amounts, lent.amounts_len);
@@ -82,7 +96,8 @@ static void make_book(void) { number = waterbook_book(text, lent.text_len, buf, 
 /* The most water that slot k may hold under so many delays. */
 static uint32_t slot_limit(uint32_t k, uint32_t delays) { return k > delays ? 0 : 2000000 * (delays - k + 1); }
 
-/* A card of 256 cells with so many delays and the usual share, and full rows in life 3 with count 7 due. */
+/* A card of 256 cells with so many delays and the usual share, and full rows in life 3 with count 7 due, with sums of 0
+ * and without. */
 static void give_delays(uint32_t delays) {
     given.card[0] = WATERBOOK_CELLS;
     given.card[1] = delays;
@@ -95,8 +110,22 @@ static void give_delays(uint32_t delays) {
         row[1] = 7;
         for (uint32_t k = 1; k <= 30; k++)
             row[1 + k] = slot_limit(k, delays);
+        memcpy(given.old + WATERBOOK_OLD_ROW * cell, row, WATERBOOK_OLD_ROW * sizeof *row);
     }
 }
+
+/* 10^18 as a high and a low number, and the places of the sums in a row. */
+enum { FULL_HIGH = 232830643, RUNOFF = WATERBOOK_OLD_ROW, DRAINAGE = WATERBOOK_OLD_ROW + 2 };
+static const uint32_t full_low = 2808348672;
+
+/* Give a row full sums. */
+static void give_full_sums(uint32_t *row) {
+    row[RUNOFF] = row[DRAINAGE] = FULL_HIGH;
+    row[RUNOFF + 1] = row[DRAINAGE + 1] = full_low;
+}
+
+/* Give a row sums of 0. */
+static void give_no_sums(uint32_t *row) { memset(row + RUNOFF, 0, 4 * sizeof *row); }
 
 /* All in order: 30 delays, soil numbers, the reading and the void that are due for the last cell, an answer and a
  * sheet. */
@@ -113,8 +142,10 @@ static void give_all(void) {
     given.card_len = WATERBOOK_CARD;
     given.reading_len = WATERBOOK_READING;
     given.rows_len = WATERBOOK_ROW * WATERBOOK_CELLS;
+    given.old_len = WATERBOOK_OLD_ROW * WATERBOOK_CELLS;
     given.soil_len = WATERBOOK_SOIL * WATERBOOK_CELLS;
     given.amounts_len = WATERBOOK_AMOUNTS;
+    given.sums_len = WATERBOOK_SUMS;
     given.sheet_len = WATERBOOK_SHEET;
     given.got_len = WATERBOOK_GOT;
     given.buf_len = sizeof buf;
@@ -170,20 +201,39 @@ static void refused_shares(void) {
         try_with(&given.card[WATERBOOK_SHARE_AT], wrong[i], WATERBOOK_BAD_CARD);
 }
 
-/* The refusals that a reading and a void have in common: by card, slices and row, and by the entry's cell, life and
- * count, which stand first in it. */
-static void refused_entries(uint32_t *entry) {
-    uint32_t *row = given.rows + WATERBOOK_ROW * 255;
+/* The refusals that all calls over rows have in common: by card and share, and by the length of the rows. */
+static void refused_sites(void) {
     try_with(&given.card[31], 1, WATERBOOK_BAD_CARD);
     try_with(&given.card[0], 257, WATERBOOK_BAD_CARD);
     refused_shares();
-    try_shorter(&given.soil_len, WATERBOOK_BAD_LENGTHS);
     try_shorter(&given.rows_len, WATERBOOK_BAD_LENGTHS);
+    try_shorter(&given.card_len, WATERBOOK_NOT_THE_COUNT);
+}
+
+/* A row's numbers out of range one by one, as far as it has them; its sums also by their low numbers. */
+static void refused_rows(uint32_t *row, size_t width) {
+    for (size_t i = 0; i < WATERBOOK_OLD_ROW; i++)
+        try_with(&row[i], UINT32_MAX, WATERBOOK_BAD_ROW);
+    if (width == WATERBOOK_OLD_ROW)
+        return;
+    try_with(&row[RUNOFF], FULL_HIGH + 1, WATERBOOK_BAD_ROW);
+    try_with(&row[DRAINAGE], FULL_HIGH + 1, WATERBOOK_BAD_ROW);
+    give_full_sums(row);
+    try_with(&row[RUNOFF + 1], full_low + 1, WATERBOOK_BAD_ROW);
+    try_with(&row[DRAINAGE + 1], full_low + 1, WATERBOOK_BAD_ROW);
+    give_no_sums(row);
+}
+
+/* The refusals that a reading and a void have in common: those of the site, by its row, and by the entry's cell, life
+ * and count, which stand first in it. */
+static void refused_entries(uint32_t *entry) {
+    uint32_t *row = given.rows + WATERBOOK_ROW * 255;
+    refused_sites();
+    try_shorter(&given.soil_len, WATERBOOK_BAD_LENGTHS);
     try_with(&entry[0], 256, WATERBOOK_BAD_CELL);
     for (size_t i = 0; i < WATERBOOK_SOIL; i++)
         try_with_signed(&given.soil[WATERBOOK_SOIL * 255 + i], INT64_MIN, WATERBOOK_BAD_SOIL);
-    for (size_t i = 0; i < WATERBOOK_ROW; i++)
-        try_with(&row[i], UINT32_MAX, WATERBOOK_BAD_ROW);
+    refused_rows(row, WATERBOOK_ROW);
     try_with(&row[0], 4, WATERBOOK_OLD);
     try_with(&entry[2], 6, WATERBOOK_OLD);
     try_with(&entry[2], 8, WATERBOOK_GAP);
@@ -191,8 +241,24 @@ static void refused_entries(uint32_t *entry) {
     row[1] = entry[2] = 1000000;
     try(WATERBOOK_BAD_READING);
     row[1] = entry[2] = 7;
-    try_shorter(&given.card_len, WATERBOOK_NOT_THE_COUNT);
     try_shorter(&given.amounts_len, WATERBOOK_NOT_THE_COUNT);
+}
+
+/* Readings over full sums, which would pass runoff, both, drainage, and neither; then one that carries in both. */
+static void full_steps(void) {
+    uint32_t *row = given.rows + WATERBOOK_ROW * 255;
+    give_full_sums(row);
+    try(WATERBOOK_SUM_FULL);
+    try_with(&given.reading[9], 0x41280000, WATERBOOK_SUM_FULL);
+    row[RUNOFF] -= 1;
+    try_with(&given.reading[9], 0x41280000, WATERBOOK_SUM_FULL);
+    try(WATERBOOK_ACCEPTED);
+    row[RUNOFF] += 1;
+    try_with(&given.reading[3], 0, WATERBOOK_ACCEPTED);
+    row[RUNOFF + 1] = row[DRAINAGE + 1] = UINT32_MAX;
+    row[RUNOFF] = row[DRAINAGE] = 0;
+    try_with(&given.reading[9], 0x41280000, WATERBOOK_ACCEPTED);
+    give_no_sums(row);
 }
 
 static void step_cases(void) {
@@ -207,6 +273,7 @@ static void step_cases(void) {
     try_with(&given.reading[9], 0x461c4001, WATERBOOK_UNUSABLE_HEAD);
     try_with(&given.reading[9], 0x7149f2ca, WATERBOOK_INACTIVE_HEAD);
     try_shorter(&given.reading_len, WATERBOOK_NOT_THE_COUNT);
+    full_steps();
 }
 
 static void void_cases(void) {
@@ -227,6 +294,45 @@ static void clear_cases(void) {
     refused_shares();
     try_shorter(&given.rows_len, WATERBOOK_BAD_LENGTHS);
     try_shorter(&given.card_len, WATERBOOK_NOT_THE_COUNT);
+}
+
+static void collect_cases(void) {
+    uint32_t *row = given.rows + WATERBOOK_ROW * 255;
+    given.cell = 255;
+    for (uint32_t delays = 0; delays <= 30; delays++) {
+        give_delays(delays);
+        try(WATERBOOK_ACCEPTED);
+    }
+    refused_sites();
+    try_with(&given.cell, 256, WATERBOOK_BAD_CELL);
+    refused_rows(row, WATERBOOK_ROW);
+    try_shorter(&given.sums_len, WATERBOOK_NOT_THE_COUNT);
+    give_full_sums(row);
+    try(WATERBOOK_ACCEPTED);
+    if (lent.sums[0] != 1000000000000000000 || lent.sums[1] != 1000000000000000000)
+        exit(2);
+}
+
+/* The cases that both moves have; the rows that they take have so many numbers per cell. */
+static void move_cases(uint32_t *taken, size_t width) {
+    for (uint32_t delays = 0; delays <= 30; delays++) {
+        give_delays(delays);
+        try(WATERBOOK_ACCEPTED);
+    }
+    refused_sites();
+    try_shorter(&given.old_len, WATERBOOK_BAD_LENGTHS);
+    refused_rows(taken, width);
+    refused_rows(taken + width * 255, width);
+}
+
+static void grow_cases(void) { move_cases(given.old, WATERBOOK_OLD_ROW); }
+
+static void shrink_cases(void) {
+    move_cases(given.rows, WATERBOOK_ROW);
+    for (size_t i = WATERBOOK_OLD_ROW; i < WATERBOOK_ROW; i++) {
+        try_with(&given.rows[i], 1, WATERBOOK_NOT_COLLECTED);
+        try_with(&given.rows[WATERBOOK_ROW * 255 + i], 1, WATERBOOK_NOT_COLLECTED);
+    }
 }
 
 static void add_cases(void) {
@@ -356,8 +462,10 @@ static void write_answer_cases(void) {
     try_with_signed(&given.amounts[9], -1, WATERBOOK_MALFORMED);
     try_shorter(&given.amounts_len, WATERBOOK_NOT_THE_COUNT);
     memset(given.amounts, 0, sizeof given.amounts);
-    for (uint32_t refused = 0; refused <= 12; refused++)
-        try_with(&given.answered, refused, refused <= 10 ? WATERBOOK_ACCEPTED : WATERBOOK_MALFORMED);
+    for (uint32_t refused = 0; refused <= WATERBOOK_NOT_COLLECTED; refused++)
+        try_with(&given.answered, refused,
+                 refused <= WATERBOOK_INACTIVE_HEAD || refused == WATERBOOK_SUM_FULL ? WATERBOOK_ACCEPTED
+                                                                                    : WATERBOOK_MALFORMED);
 }
 
 static void write_sheet_cases(void) {
@@ -457,6 +565,9 @@ int main(void) {
     int all = held("waterbook_step", WATERBOOK_STACK_STEP, make_step, step_cases);
     all &= held("waterbook_void", WATERBOOK_STACK_VOID, make_void, void_cases);
     all &= held("waterbook_clear", WATERBOOK_STACK_CLEAR, make_clear, clear_cases);
+    all &= held("waterbook_collect", WATERBOOK_STACK_COLLECT, make_collect, collect_cases);
+    all &= held("waterbook_grow", WATERBOOK_STACK_GROW, make_grow, grow_cases);
+    all &= held("waterbook_shrink", WATERBOOK_STACK_SHRINK, make_shrink, shrink_cases);
     all &= held("waterbook_add", WATERBOOK_STACK_ADD, make_add, add_cases);
     all &= held("waterbook_read_card", WATERBOOK_STACK_READ_CARD, make_read_card, read_card_cases);
     all &= held("waterbook_write_card", WATERBOOK_STACK_WRITE_CARD, make_write_card, write_card_cases);

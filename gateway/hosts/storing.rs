@@ -1,7 +1,7 @@
 //! A host that stores as STORING.md says: `storing SEED SITES` keeps so many sites while the link loses and repeats,
-//! sheets fill, the card gets another share, the store fails before or after it is durable, and the power is cut at
-//! every point. It holds each book to what the nodes made. Hosts that work in a wrong order must be found out by the
-//! same run.
+//! sheets fill, the card gets another share, plots are collected, the store fails before or after it is durable, and the
+//! power is cut at every point. It holds each book to what the nodes made, and what was collected to the book. Hosts
+//! that work in a wrong order must be found out by the same run.
 
 #[allow(dead_code)]
 #[path = "../waterbook.rs"]
@@ -10,11 +10,14 @@ mod waterbook;
 use second::made::dice::Dice;
 use std::ops::Range;
 use std::process::ExitCode;
-use waterbook::{Amounts, Answer, Notice, ROW, Reading, Refusal, SHEET, Sheet, USUAL_SHARE};
+use waterbook::{Amounts, Answer, Card, Notice, ROW, Reading};
+use waterbook::{Refusal, SHEET, SUMS, Sheet, Sums, USUAL_SHARE};
 
-/// Plots of a site, days that its nodes report, sendings after which a node gives up, and the steps of a full sheet.
+/// Plots of a site, days that its nodes report, days after which it is collected, sendings after which a node gives up,
+/// and the steps of a full sheet.
 const PLOTS: usize = 3;
 const DAYS: usize = 30;
+const PERIOD: usize = 7;
 const SENDINGS: usize = 20_000;
 const FULL: i64 = 100_000_000;
 
@@ -30,10 +33,12 @@ enum Order {
     PutBackAfterFailure,
     FullSheetForgotten,
     ShareNotStored,
+    CollectedRowApart,
+    CollectedSumsApart,
 }
 
 /// The wrong orders by name.
-const WRONG: [(Order, &str); 8] = [
+const WRONG: [(Order, &str); 10] = [
     (Order::AcknowledgedFirst, "acknowledged first"),
     (Order::RowApart, "row apart"),
     (Order::AnswerApart, "answer apart"),
@@ -42,6 +47,8 @@ const WRONG: [(Order, &str); 8] = [
     (Order::PutBackAfterFailure, "memory put back after a failure"),
     (Order::FullSheetForgotten, "11 not handled"),
     (Order::ShareNotStored, "another share used and not stored"),
+    (Order::CollectedRowApart, "row of a collection apart"),
+    (Order::CollectedSumsApart, "sums of a collection apart"),
 ];
 
 /// What a node makes of a day: a reading, or a void where its gauge froze.
@@ -69,10 +76,25 @@ struct Site {
     sheet: Sheet,
 }
 
-/// What an accepted entry changes: its answer, the sheet that it found full, and the site after it.
+/// What is to be stored of a plot: an accepted entry with its answer, or what was collected.
+enum News {
+    Answer(Entry, Amounts),
+    Collected(usize, Sums),
+}
+
+impl News {
+    /// Where the row of its plot stands.
+    fn row(&self) -> Range<usize> {
+        match self {
+            News::Answer(entry, _) => row(entry.plot()),
+            News::Collected(plot, _) => row(*plot),
+        }
+    }
+}
+
+/// What an accepted entry or a collection changes: its news, the sheet that it found full, and the site after it.
 struct Change {
-    entry: Entry,
-    amounts: Amounts,
+    news: News,
     full: Option<Sheet>,
     site: Site,
 }
@@ -81,7 +103,7 @@ impl Site {
     /// Step an entry and add its answer; a full sheet is put away.
     fn step(&mut self, entry: &Entry, order: Order) -> Result<Change, Refusal> {
         let answer = step(self.share, &mut self.rows, entry);
-        let (amounts, mut full) = (answer?, None);
+        let (news, mut full) = (News::Answer(*entry, answer?), None);
         if let Err(refusal) = waterbook::add(&mut self.sheet, &answer) {
             if order == Order::FullSheetForgotten {
                 return Err(refusal);
@@ -89,13 +111,29 @@ impl Site {
             full = Some(std::mem::replace(&mut self.sheet, [0; SHEET]));
             waterbook::add(&mut self.sheet, &answer)?;
         }
-        Ok(Change { entry: *entry, amounts, full, site: self.clone() })
+        Ok(Change { news, full, site: self.clone() })
+    }
+
+    /// Collect a plot.
+    fn collect(&mut self, plot: usize) -> Result<Change, Refusal> {
+        let sums = collect(self.share, &mut self.rows, plot)?;
+        Ok(Change { news: News::Collected(plot, sums), full: None, site: self.clone() })
     }
 }
 
-/// Step an entry over a card with two delays and this share.
+/// A card with two delays and this share.
+fn card(share: u32) -> Result<Card, Refusal> {
+    waterbook::card(PLOTS as u32, &[1_000_000, 2_000_000], share)
+}
+
+/// Collect a plot over a card with this share.
+fn collect(share: u32, rows: &mut [u32], plot: usize) -> Result<Sums, Refusal> {
+    waterbook::collect(&card(share)?, rows, plot as u32)
+}
+
+/// Step an entry over a card with this share.
 fn step(share: u32, rows: &mut [u32], entry: &Entry) -> Answer {
-    let card = waterbook::card(PLOTS as u32, &[1_000_000, 2_000_000], share)?;
+    let card = card(share)?;
     let soil = [10_000_000, 1_500_000, 200, 100_000, 80].repeat(PLOTS);
     match entry {
         Entry::Reading(reading) => waterbook::step(&card, &soil, rows, reading),
@@ -103,25 +141,25 @@ fn step(share: u32, rows: &mut [u32], entry: &Entry) -> Answer {
     }
 }
 
-/// Where the row of an entry's plot stands.
-fn row(entry: &Entry) -> Range<usize> {
-    let start = ROW * entry.plot();
-    start..start + ROW
+/// Where the row of a plot stands.
+fn row(plot: usize) -> Range<usize> {
+    ROW * plot..ROW * (plot + 1)
 }
 
 /// The parts of a change.
 #[derive(Clone, Copy)]
 enum Part {
     Row,
-    Answer,
+    News,
     Sheet,
 }
 
-/// What is durable: the site, all answers, the places among them from which on each share is used, and the sheets that
-/// were put away.
+/// What is durable: the site, all answers, what was collected of which plot and at which place among them, the places
+/// from which on each share is used, and the sheets that were put away.
 struct Disk {
     site: Site,
     book: Vec<(Entry, Amounts)>,
+    collected: Vec<(usize, usize, Sums)>,
     shares: Vec<(usize, u32)>,
     full: Vec<Sheet>,
 }
@@ -131,10 +169,13 @@ impl Disk {
     fn put(&mut self, part: Part, change: &Change) {
         match part {
             Part::Row => {
-                let row = row(&change.entry);
+                let row = change.news.row();
                 self.site.rows[row.clone()].copy_from_slice(&change.site.rows[row]);
             }
-            Part::Answer => self.book.push((change.entry, change.amounts)),
+            Part::News => match change.news {
+                News::Answer(entry, amounts) => self.book.push((entry, amounts)),
+                News::Collected(plot, sums) => self.collected.push((self.book.len(), plot, sums)),
+            },
             Part::Sheet => {
                 self.full.extend(change.full);
                 self.site.sheet = change.site.sheet;
@@ -169,8 +210,8 @@ impl Gateway {
     /// A gateway on the first day of a site.
     fn first(order: Order, sheet: Sheet) -> Gateway {
         let site = Site { share: USUAL_SHARE, rows: vec![0; ROW * PLOTS], sheet };
-        let (book, shares, full) = Default::default();
-        let disk = Disk { site: site.clone(), book, shares, full };
+        let (book, collected, shares, full) = Default::default();
+        let disk = Disk { site: site.clone(), book, collected, shares, full };
         Gateway { order, disk, memory: site, mishaps: Mishaps::default() }
     }
 
@@ -200,7 +241,7 @@ impl Gateway {
 
     /// The acknowledgement of a plot: its life and next count.
     fn acknowledged(&self, entry: &Entry) -> Option<[u32; 2]> {
-        let row = &self.memory.rows[row(entry)];
+        let row = &self.memory.rows[row(entry.plot())];
         Some([row[0], row[1]])
     }
 
@@ -218,6 +259,18 @@ impl Gateway {
         let early = self.acknowledged(entry);
         let stored = !self.cut(dice) && self.store(&change, before, dice) && !self.cut(dice);
         if self.order == Order::AcknowledgedFirst { early } else { early.filter(|_| stored) }
+    }
+
+    /// Collect a plot, and store what came with the row in which it no longer is.
+    fn collect(&mut self, plot: usize, dice: &mut Dice) {
+        let before = self.memory.clone();
+        if self.cut(dice) {
+            return;
+        }
+        let Ok(change) = self.memory.collect(plot) else { return };
+        if !self.cut(dice) && self.store(&change, before, dice) {
+            self.cut(dice);
+        }
     }
 
     /// Store a change; false where the store fails, durable or not, or the power is cut.
@@ -240,11 +293,17 @@ impl Gateway {
 
     /// All parts of a change become durable, together where the order is right; false where the power is cut between.
     fn write(&mut self, change: &Change, dice: &mut Dice) -> bool {
-        let (apart, together) = match self.order {
-            Order::RowApart => (Some(Part::Row), [Part::Answer, Part::Sheet].as_slice()),
-            Order::AnswerApart => (Some(Part::Answer), [Part::Row, Part::Sheet].as_slice()),
-            Order::SheetApart => (Some(Part::Sheet), [Part::Row, Part::Answer].as_slice()),
-            _ => (None, [Part::Row, Part::Answer, Part::Sheet].as_slice()),
+        let (apart, together) = match (self.order, &change.news) {
+            (Order::RowApart, News::Answer(..))
+            | (Order::CollectedRowApart, News::Collected(..)) => {
+                (Some(Part::Row), [Part::News, Part::Sheet].as_slice())
+            }
+            (Order::AnswerApart, News::Answer(..))
+            | (Order::CollectedSumsApart, News::Collected(..)) => {
+                (Some(Part::News), [Part::Row, Part::Sheet].as_slice())
+            }
+            (Order::SheetApart, _) => (Some(Part::Sheet), [Part::Row, Part::News].as_slice()),
+            _ => (None, [Part::Row, Part::News, Part::Sheet].as_slice()),
         };
         if let Some(part) = apart {
             self.disk.put(part, change);
@@ -328,12 +387,15 @@ fn keep(order: Order, dice: &mut Dice) -> (Gateway, bool) {
     let first = first_sheet(dice);
     let mut gateway = Gateway::first(order, first);
     let mut nodes: Vec<Node> = (0..PLOTS).map(|_| Node::default()).collect();
-    for _ in 0..DAYS {
+    for day in 1..=DAYS {
         if dice.once_in(10) {
             gateway.change_share(dice.within(5, 20) as u32);
         }
         nodes.iter_mut().enumerate().for_each(|(plot, node)| node.make(plot, dice));
         (0..8).for_each(|_| send(&mut gateway, &mut nodes, dice));
+        if day % PERIOD == 0 {
+            (0..PLOTS).for_each(|plot| gateway.collect(plot, dice));
+        }
     }
     for _ in 0..SENDINGS {
         if nodes.iter().all(|node| node.heard == node.made.len()) {
@@ -342,21 +404,45 @@ fn keep(order: Order, dice: &mut Dice) -> (Gateway, bool) {
         send(&mut gateway, &mut nodes, dice);
     }
     let disk = &gateway.disk;
-    let sound = whole(disk, &nodes) && summed(first, disk);
+    let sound = whole(disk, &nodes) && summed(first, disk) && gathered(disk);
     (gateway, sound)
 }
 
-/// Has the disk each entry once, in its order, and are its rows and amounts those of the entries?
+/// Collect again what was collected at a place among the answers: does the same come?
+fn collected_again(disk: &Disk, place: usize, rows: &mut [u32]) -> bool {
+    let mut here = disk.collected.iter().filter(|(at, _, _)| *at == place);
+    here.all(|(_, plot, sums)| collect(disk.share_at(place), rows, *plot) == Ok(*sums))
+}
+
+/// Has the disk each entry once, in its order, and are its rows, amounts and collections those of the entries?
 fn whole(disk: &Disk, nodes: &[Node]) -> bool {
     let mut rows = vec![0; ROW * PLOTS];
     let stepped = disk.book.iter().enumerate().all(|(place, (entry, amounts))| {
-        step(disk.share_at(place), &mut rows, entry) == Ok(*amounts)
+        collected_again(disk, place, &mut rows)
+            && step(disk.share_at(place), &mut rows, entry) == Ok(*amounts)
     });
+    let stepped = stepped && collected_again(disk, disk.book.len(), &mut rows);
     let made = nodes.iter().enumerate().all(|(plot, node)| {
         let of_plot = disk.book.iter().filter(|(entry, _)| entry.plot() == plot);
         of_plot.map(|(entry, _)| entry).eq(&node.made)
     });
     stepped && made && rows == disk.site.rows
+}
+
+/// Is what was collected of each plot, with what its row still holds, the runoff and drain of its answers?
+fn gathered(disk: &Disk) -> bool {
+    let mut sums = [[0; SUMS]; PLOTS];
+    for (entry, amounts) in &disk.book {
+        let sums = &mut sums[entry.plot()];
+        *sums = [sums[0] + amounts[1], sums[1] + amounts[5]];
+    }
+    for (_, plot, [runoff, drainage]) in &disk.collected {
+        let sums = &mut sums[*plot];
+        *sums = [sums[0] - *runoff as i64, sums[1] - *drainage as i64];
+    }
+    let held = |two: &[u32]| (i64::from(two[0]) << 32) + i64::from(two[1]);
+    let rows = disk.site.rows.chunks(ROW);
+    rows.zip(sums).all(|(row, sums)| [held(&row[32..34]), held(&row[34..])] == sums)
 }
 
 /// Are all sheets together, those put away and the present one, the first one and the answers, and was each full?
@@ -391,12 +477,14 @@ fn main() -> ExitCode {
         (all(|gateway| gateway.mishaps.durable), all(|gateway| gateway.disk.full.len()));
     let (entries, shares) =
         (*sites as usize * PLOTS * DAYS, all(|gateway| gateway.disk.shares.len()));
+    let collected = all(|gateway| gateway.disk.collected.len());
     println!("storing: {sites} sites, {entries} readings and voids, {shares} other shares");
+    println!("storing: {collected} collections");
     println!("storing: {full} full sheets, {cuts} cuts");
     println!("storing: {lost} stores failed with nothing durable, {durable} with all of it");
-    println!("storing: {} sites lost or doubled an entry", unsound(&right));
-    let mut sound =
-        unsound(&right) == 0 && [cuts, lost, durable, full, shares].iter().all(|times| *times > 0);
+    println!("storing: {} sites lost or doubled an entry or a collection", unsound(&right));
+    let met = [cuts, lost, durable, full, shares, collected];
+    let mut sound = unsound(&right) == 0 && met.iter().all(|times| *times > 0);
     for (order, name) in WRONG {
         let found = unsound(&run(order));
         println!("storing: wrong order, {name}: {found} sites did");

@@ -28,11 +28,15 @@
  *    3  leak     share of standing water that drains in a step, in millionths, 0..1,000,000
  *    4  cn       curve number of the ground at normal moisture, 1..100
  *
- * rows: 32 numbers per cell, cell 0 first; kept by the host from call to call.
+ * rows: 36 numbers per cell, cell 0 first; kept by the host from call to call.
  *    0        life of the node's battery at the last accepted reading or void, 0..65,535
  *    1        next count: the count that is due, 0..1,000,000
  *    2..31    slots 1..30: slot k holds water in µm due in k accepted steps, at most 2,000,000 x (M - k + 1);
  *             slots above M hold 0
+ *    32, 33   runoff since the last collection in µm, its high and its low 32 bits: together at most 10^18
+ *    34, 35   drainage since the last collection in µm, likewise
+ *
+ * old rows: 32 numbers per cell, those at places 0..31 of a row: what version 3 kept. Only the two moves take them.
  *
  * reading: 10 numbers.
  *    0  cell     which plot, from 0
@@ -63,6 +67,10 @@
  *    7  stored    water that starts to wait in this step
  *    8  recharge  net gain of the water table, signed
  *    9  left      all water that waits after the step
+ *
+ * sums: 2 numbers of 64 bits that collecting a cell hands back, in µm.
+ *    0  runoff    the sum of the runoff of the cell's accepted readings since the last collection
+ *    1  drainage  the sum of their drain
  *
  * sheet: 10 numbers. Ten zeros are an empty sheet.
  *    0     steps  accepted answers added, 0..100,000,000
@@ -102,15 +110,25 @@ extern "C" {
  * taken that was malformed before, or a room or stack stated below grows: build the host again. PATCH rises where none
  * of this is so, as for speed.
  *
- * From 2.x to 3.0.0 the card got one number more, the share, at place 32. What a host of 2.x has to change:
+ * From 3.x to 4.0.0 a row got four numbers more, the two sums, at places 32 to 35. What a host of 3.x has to change:
+ *   Move each site over once: lend waterbook_grow the stored rows, 32 x cells numbers, and a fresh slice of 36 x cells.
+ *   Keep the old rows until it has returned 0 and the new ones are stored. Rows lent with 32 numbers a cell get 2 from
+ *   each other call, and nothing is changed.
+ *   For a plot more put 36 zeros at the end of the rows in place of 32.
+ *   Know two numbers more: waterbook_step may return 15, waterbook_shrink 16. Collect each cell now and then.
+ *   Give calls the stack that is stated below: some need more.
+ * To go back to 3.x collect every cell, and keep the sums that come; then waterbook_shrink gives the very rows that 3.x
+ * would have. All else is as it was: cards, soil numbers, readings, notices, amounts, sheets and texts have the same
+ * numbers, and every answer is the same but where a sum would pass its limit. The Rust side has changed likewise.
+ *
+ * From 2.x to 3.0.0 the card got one number more, the share, at place 32. What a host of 2.x has to change besides:
  *   Lend 33 numbers as a card in place of 32, with 20 at place 32. A card lent with 32 gets 255, and nothing is changed;
- *   one with 33 and a 0 left there gets 1 from step, void and clearing, and is written with share=0.
+ *   one with 33 and a 0 left there gets 1 from each call that looks at ranges, and is written with share=0.
  *   Put 20 behind the 32 numbers of each card that is stored.
  *   Give a card text 17 bytes more room, as WATERBOOK_CARD_TEXT does.
- * All else is as it was. Rows, soil numbers, readings, notices, amounts and sheets have the same numbers, and with 20
- * every answer is the same. A card text that was read before is read the same, with 20 at place 32, and a card with 20
- * is written as before; a text with another share was malformed before. The Rust side has changed likewise. */
-#define WATERBOOK_VERSION_MAJOR 3
+ * With 20 every answer is the same. A card text that was read before is read the same, with 20 at place 32, and a card
+ * with 20 is written as before; a text with another share was malformed before. */
+#define WATERBOOK_VERSION_MAJOR 4
 #define WATERBOOK_VERSION_MINOR 0
 #define WATERBOOK_VERSION_PATCH 0
 #define WATERBOOK_VERSION \
@@ -121,13 +139,14 @@ enum waterbook_number {
     WATERBOOK_ACCEPTED = 0,
     /* The card is out of range, its share too, its depths do not rise, or an unused place is not 0. */
     WATERBOOK_BAD_CARD = 1,
-    /* soil has not 5 x cells numbers (for reading a card: has fewer), or rows has not 32 x cells. */
+    /* soil has not 5 x cells numbers (for reading a card: has fewer), rows has not 36 x cells, or a move's old rows not
+     * 32 x cells. */
     WATERBOOK_BAD_LENGTHS = 2,
     /* The cell number is not below cells. */
     WATERBOOK_BAD_CELL = 3,
     /* A soil number of that cell is out of range. */
     WATERBOOK_BAD_SOIL = 4,
-    /* That cell's row is out of range. */
+    /* That cell's row is out of range; for a move, any row of the site. */
     WATERBOOK_BAD_ROW = 5,
     /* Old: the life is lower, or the same with a count lower than next. */
     WATERBOOK_OLD = 6,
@@ -144,16 +163,22 @@ enum waterbook_number {
     WATERBOOK_NOT_ADDABLE = 11,
     /* The text is malformed, or there is nothing that can be written. */
     WATERBOOK_MALFORMED = 12,
-    /* A card, reading, notice, amounts, sheet or got slice has another count of numbers than its own; nothing is
+    /* The cell's runoff or drainage would pass 10^18 µm since it was last collected: collect it, and step again. */
+    WATERBOOK_SUM_FULL = 15,
+    /* A sum of the site is not 0: before a move back, every cell is to be collected. */
+    WATERBOOK_NOT_COLLECTED = 16,
+    /* A card, reading, notice, amounts, sums, sheet or got slice has another count of numbers than its own; nothing is
      * changed. */
     WATERBOOK_NOT_THE_COUNT = 255
 };
 
-/* How many numbers a record has; soil and rows have so many per cell. */
+/* How many numbers a record has; soil, rows and old rows have so many per cell. */
 enum {
     WATERBOOK_CARD = 33,
     WATERBOOK_SOIL = 5,
-    WATERBOOK_ROW = 32,
+    WATERBOOK_ROW = 36,
+    WATERBOOK_OLD_ROW = 32,
+    WATERBOOK_SUMS = 2,
     WATERBOOK_READING = 10,
     WATERBOOK_NOTICE = 3,
     WATERBOOK_AMOUNTS = 10,
@@ -195,6 +220,9 @@ enum {
     WATERBOOK_STACK_STEP = 832,
     WATERBOOK_STACK_VOID = 832,
     WATERBOOK_STACK_CLEAR = 208,
+    WATERBOOK_STACK_COLLECT = 240,
+    WATERBOOK_STACK_GROW = 512,
+    WATERBOOK_STACK_SHRINK = 512,
     WATERBOOK_STACK_ADD = 208,
     WATERBOOK_STACK_READ_CARD = 1088,
     WATERBOOK_STACK_WRITE_CARD = 1920,
@@ -204,17 +232,19 @@ enum {
     WATERBOOK_STACK_WRITE_VOID = 800,
     WATERBOOK_STACK_WRITE_ANSWER = 1600,
     WATERBOOK_STACK_WRITE_SHEET = 1536,
-    WATERBOOK_STACK_BOOK = 45056
+    WATERBOOK_STACK_BOOK = 49152
 };
 
 /* The room in bytes that the book of a journal of so many bytes needs. */
 #define WATERBOOK_BOOK_ROOM(journal_len) (5 * (size_t)(journal_len) + 300)
 
-/* One reading of the site. Returns 0..10 or 255: 255 is looked at first, then 1 to 10 in this order, and the first that
- * applies is returned. So a life or count out of range that is a gap as well gives 7.
- * Accepted (0): the row of the reading's cell is the row after the step, no other number of rows changes,
- * and amounts holds the ten amounts. Refused (1..10): rows stays as it came and amounts holds ten zeros.
- * A reading refused with 8, 9 or 10 does not use up its count: a corrected one may follow, or a void. */
+/* One reading of the site. Returns 0..10, 15 or 255: 255 is looked at first, then 1 to 10 in this order, last 15, and
+ * the first that applies is returned. So a life or count out of range that is a gap as well gives 7.
+ * Accepted (0): the row of the reading's cell is the row after the step, its runoff and its drain added to the sums, no
+ * other number of rows changes, and amounts holds the ten amounts. Refused (1..10, 15): rows stays as it came and
+ * amounts holds ten zeros.
+ * A reading refused with 8, 9 or 10 does not use up its count: a corrected one may follow, or a void. Nor does one
+ * refused with 15: once its cell is collected, it is accepted as it is. */
 uint32_t waterbook_step(const uint32_t *card, size_t card_len,
                         const int64_t *soil, size_t soil_len,
                         uint32_t *rows, size_t rows_len,
@@ -225,8 +255,8 @@ uint32_t waterbook_step(const uint32_t *card, size_t card_len,
  * waterbook_step; 8 is looked at for life and count only, so a void in order, its life and count in range, is accepted
  * whatever the day was.
  * Accepted (0): the waiting water of the notice's cell moves on by one step, release is what was due, recharge is the
- * release, left is what still waits, all other amounts are 0; the row has the notice's life and count + 1, and no other
- * row changes. It is a step like any other: waterbook_add takes its answer.
+ * release, left is what still waits, all other amounts are 0; the row has the notice's life and count + 1, its sums are
+ * as they were, and no other row changes. It is a step like any other: waterbook_add takes its answer.
  * Refused (1..8): rows stays as it came and amounts holds ten zeros. */
 uint32_t waterbook_void(const uint32_t *card, size_t card_len,
                         const int64_t *soil, size_t soil_len,
@@ -234,10 +264,36 @@ uint32_t waterbook_void(const uint32_t *card, size_t card_len,
                         const uint32_t *notice, size_t notice_len,
                         int64_t *amounts, size_t amounts_len);
 
-/* Sets all rows of the site to 0, as they must be before the first reading or void. Returns 0, 1, 2 or 255;
+/* Sets all rows of the site to 0, sums too, as they must be before the first reading or void. Returns 0, 1, 2 or 255;
  * where it is not 0, rows stays as it came. */
 uint32_t waterbook_clear(const uint32_t *card, size_t card_len,
                          uint32_t *rows, size_t rows_len);
+
+/* Collects a cell: its runoff and its drainage since the last collection. Returns 0, 1, 2, 3, 5 or 255, in the order of
+ * waterbook_step; 5 is looked at for that cell's row only.
+ * Accepted (0): sums holds both, in the row they are 0 from then on, and no other number of rows changes: lives, counts
+ * and waiting water stay. Refused (1, 2, 3, 5): rows stays as it came and sums holds two zeros.
+ * From cleared rows, or rows moved over, what was collected of a cell and what its row still holds come to the runoff
+ * and the drain of all its accepted readings. A step adds at most 2,000,000 µm of runoff and 20,000,000,000 of drain:
+ * no 15 comes in the first 50,000,000 steps after a collection. */
+uint32_t waterbook_collect(const uint32_t *card, size_t card_len,
+                           uint32_t *rows, size_t rows_len,
+                           uint32_t cell,
+                           uint64_t *sums, size_t sums_len);
+
+/* Moves a site over from the rows of version 3: writes rows, each old row with both sums at 0 behind it. Returns 0, 1,
+ * 2 (either slice), 5 (any row, all of them looked at before a number is written) or 255; where it is not 0, rows stays
+ * as it came. Once for a site: a second time, from the same old rows, the steps made since are lost. */
+uint32_t waterbook_grow(const uint32_t *card, size_t card_len,
+                        const uint32_t *old, size_t old_len,
+                        uint32_t *rows, size_t rows_len);
+
+/* Moves a site back: writes old, each row without its sums; after waterbook_grow these are the very rows that it took.
+ * Returns 0, 1, 2 (either slice), 5 (any row), 16 or 255, in this order, all of it looked at before a number is
+ * written; where it is not 0, old stays as it came. 16: a sum of the site is not 0; collect every cell first. */
+uint32_t waterbook_shrink(const uint32_t *card, size_t card_len,
+                          const uint32_t *rows, size_t rows_len,
+                          uint32_t *old, size_t old_len);
 
 /* Adds an answer, its number and its amounts, to a sheet. Returns 0, 11 or 255; where it is not 0, the sheet
  * stays as it came. 11: the number is not 0; the sheet has 100,000,000 steps or more; an amount, a sum or the
@@ -294,8 +350,8 @@ uint32_t waterbook_write_void(const uint32_t *notice, size_t notice_len,
 
 /* Writes the line that waterbook prints for an answer: the entry's cell, the number that the step returned and its
  * amounts. It goes to the start of buf, and no byte after it changes. Returns 0, 12 or 255. 12, with buf as it came:
- * buf is too short, or no step gives such an answer, since the number is above 10, or it is not 0 and an amount
- * is not 0 either, or an amount but recharge is negative. */
+ * buf is too short, or no step gives such an answer, since the number is neither 0..10 nor 15, or it is not 0 and an
+ * amount is not 0 either, or an amount but recharge is negative. */
 uint32_t waterbook_write_answer(uint32_t cell, uint32_t number,
                                 const int64_t *amounts, size_t amounts_len,
                                 uint8_t *buf, size_t buf_len,

@@ -1,11 +1,15 @@
 //! "Numbers and their ranges": the records and what each may hold.
 
+use crate::sums::Sums;
+
 /// Places for delay depths on a card.
 pub const ROOM: usize = 30;
 /// Soil numbers per cell.
 pub const SOIL: usize = 5;
-/// Stored numbers per cell: life, next count, slots 1..30.
-pub const ROW: usize = 32;
+/// Stored numbers per cell before sums were kept: life, next count, slots 1..30.
+pub const OLD_ROW: usize = 32;
+/// Stored numbers per cell: the same, then the sums of runoff and of drainage, a high and a low number each.
+pub const ROW: usize = 36;
 /// The largest single water field of a reading, in micrometres.
 pub const MOST: u32 = 1_000_000;
 /// The share that a card has whose text names none.
@@ -153,11 +157,16 @@ pub fn slot_limit(k: u32, delays: u32) -> u32 {
     }
 }
 
-/// The 32 stored numbers of one cell, each in its range.
-pub fn row_in_range(row: &[u32], delays: u32) -> bool {
+/// The first 32 stored numbers of one cell, each in its range: all that a row without sums has.
+pub fn old_row_in_range(row: &[u32], delays: u32) -> bool {
     row[0] <= 65_535
         && row[1] <= 1_000_000
         && (1..=30).all(|k| row[1 + k as usize] <= slot_limit(k, delays))
+}
+
+/// The 36 stored numbers of one cell, each in its range.
+pub fn row_in_range(row: &[u32], delays: u32) -> bool {
+    old_row_in_range(row, delays) && Sums::of(row).in_range()
 }
 
 /// Life and count in their ranges.

@@ -4,6 +4,7 @@ use crate::head::{depth, head, Head};
 use crate::numbers::{fields_in_range, row_in_range, soil_in_range, turn_in_range};
 use crate::numbers::{Amounts, Card, Entry, Reading, Turn, Void, ROOM, ROW, SOIL};
 use crate::rules::{day, void_day, Slots};
+use crate::sums::Sums;
 
 /// Set all rows of the site to 0; knows numbers 1 and 2 only.
 pub fn clear(card: &Card, rows: &mut [u32]) -> u32 {
@@ -35,7 +36,7 @@ pub fn step(card: &Card, soil: &[i64], rows: &mut [u32], r: &Reading) -> (u32, A
     let plot = &soil[SOIL * cell..SOIL * (cell + 1)];
     let row = &mut rows[ROW * cell..ROW * (cell + 1)];
     match depth(plot[0], r.head) {
-        Some(d) => (0, accept(row, r.turn(), |slots| day(card, plot, slots, r, d))),
+        Some(d) => accept(row, r.turn(), |slots| day(card, plot, slots, r, d)),
         None => unreachable!("checks 9 and 10 let only levels and dry heads by"),
     }
 }
@@ -48,10 +49,10 @@ pub fn void(card: &Card, soil: &[i64], rows: &mut [u32], v: &Void) -> (u32, Amou
     }
     let cell = v.cell as usize;
     let row = &mut rows[ROW * cell..ROW * (cell + 1)];
-    (0, accept(row, *v, |slots| void_day(card, slots)))
+    accept(row, *v, |slots| void_day(card, slots))
 }
 
-/// The ten checks of a reading in their order; the first one met gives the number.
+/// The first ten checks of a reading in their order; the first one met gives the number. The sums' check comes last.
 pub fn check(card: &Card, soil: &[i64], rows: &[u32], r: &Reading) -> u32 {
     match check_site(card, soil, rows, &r.turn()) {
         0 => check_fields(r),
@@ -113,17 +114,22 @@ fn check_fields(r: &Reading) -> u32 {
     }
 }
 
-/// Work a day into the row of its cell and use up its turn.
-fn accept(row: &mut [u32], turn: Turn, day: impl FnOnce(&mut Slots) -> Amounts) -> Amounts {
+/// Work a day into the row of its cell and use up its turn: its number and its ten amounts.
+/// Check 15: where a sum would pass its limit the row stays. A void has no runoff and no drain, so it never meets it.
+fn accept(row: &mut [u32], turn: Turn, day: impl FnOnce(&mut Slots) -> Amounts) -> (u32, Amounts) {
     let mut slots: Slots = [0; ROOM];
     for (slot, kept) in slots.iter_mut().zip(&row[2..]) {
         *slot = i64::from(*kept);
     }
     let amounts = day(&mut slots);
+    let Some(sums) = Sums::of(row).with(&amounts) else {
+        return (15, Amounts::default());
+    };
     row[0] = turn.life;
     row[1] = turn.count + 1;
     for (kept, slot) in row[2..].iter_mut().zip(&slots) {
         *kept = *slot as u32;
     }
-    amounts
+    sums.write(row);
+    (0, amounts)
 }

@@ -7,6 +7,7 @@ pub mod measure;
 pub mod outboxes;
 pub mod readings;
 pub mod site;
+pub mod sums;
 pub mod wet;
 
 use dice::Dice;

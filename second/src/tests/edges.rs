@@ -1,7 +1,7 @@
 //! "Both sides of each edge", case by case.
 
 use super::{card, example, PLOT};
-use crate::numbers::Reading;
+use crate::numbers::{Reading, ROW};
 use crate::rules::{curve_number, delay, etsat, runoff, storm_runoff};
 use crate::step::step;
 
@@ -101,7 +101,7 @@ fn curve_numbers_from_5_up_show() {
 fn a_storm_on_dry_normal_and_wet_ground() {
     let runoff = |amc| {
         let reading = Reading { amc, ..example() };
-        step(&card(1, &[]), &PLOT, &mut [0; 32], &reading).1.runoff
+        step(&card(1, &[]), &PLOT, &mut [0; ROW], &reading).1.runoff
     };
     assert_eq!([1, 2, 3].map(runoff), [2583, 14_287, 29_556]);
 }
@@ -121,7 +121,7 @@ fn runoff_over_a_shallow_table() {
 /// The number, etmin drawn and slots of a dry day at M = 3.
 fn dry_day(etmin: u32, head: u32) -> (u32, i64, i64, Vec<u32>) {
     let card = card(1, &[1_000_000, 2_000_000, 3_000_000]);
-    let mut rows = vec![0; 32];
+    let mut rows = vec![0; ROW];
     rows[2..5].copy_from_slice(&[100, 700, 5000]);
     let reading = Reading { rain: 0, septic: 0, etmin, head, ..example() };
     let (number, amounts) = step(&card, &PLOT, &mut rows, &reading);
@@ -140,7 +140,7 @@ fn draw_on_a_dry_day() {
 #[test]
 fn draw_as_far_as_it_goes() {
     let card = card(1, &[1_000_000, 2_000_000, 3_000_000]);
-    let mut rows = vec![0; 32];
+    let mut rows = vec![0; ROW];
     rows[2..5].copy_from_slice(&[100, 700, 500]);
     let reading = Reading { rain: 0, septic: 0, etmin: 2000, pet: 2000, ..example() };
     let (number, amounts) = step(&card, &PLOT, &mut rows, &reading);
@@ -153,7 +153,7 @@ fn draw_as_far_as_it_goes() {
 fn drain_above_the_top() {
     let card = card(1, &[1_000_000]);
     let reading = Reading { rain: 0, etmin: 0, head: 0x4128_0000, ..example() };
-    let (number, amounts) = step(&card, &PLOT, &mut [0; 32], &reading);
+    let (number, amounts) = step(&card, &PLOT, &mut [0; ROW], &reading);
     assert_eq!((number, amounts.drain, amounts.recharge), (0, 50_000, -54_000));
     assert_eq!((amounts.etsat, amounts.runoff, amounts.inflow), (5000, 0, 1000));
 }
@@ -173,7 +173,7 @@ fn etsat_by_depth() {
 #[test]
 fn deposit_follows_the_shift() {
     let card = card(1, &[1]);
-    let mut rows = [0; 32];
+    let mut rows = [0; ROW];
     let first = Reading { septic: 7, etmin: 0, pet: 0, ..example() };
     let (_, amounts) = step(&card, &PLOT, &mut rows, &first);
     assert_eq!((amounts.release, amounts.stored, amounts.recharge), (0, 36_513, 7));
@@ -186,10 +186,10 @@ fn deposit_follows_the_shift() {
 fn irrigation_counts_for_plants_but_not_for_the_storm() {
     let card = card(1, &[]);
     let reading = Reading { rain: 0, irrig: 3000, septic: 0, etmin: 1000, ..example() };
-    let (_, amounts) = step(&card, &PLOT, &mut [0; 32], &reading);
+    let (_, amounts) = step(&card, &PLOT, &mut [0; ROW], &reading);
     assert_eq!((amounts.runoff, amounts.etvad, amounts.inflow), (0, 3000, 3000));
     let reading = Reading { rain: 9000, irrig: 3000, septic: 0, etmin: 1000, ..example() };
-    let (_, amounts) = step(&card, &PLOT, &mut [0; 32], &reading);
+    let (_, amounts) = step(&card, &PLOT, &mut [0; ROW], &reading);
     // 12,000 less 4000, less a sixth of the rest of pet, 1000.
     assert_eq!((amounts.runoff, amounts.etvad, amounts.recharge), (0, 4000, 8000 - 166));
 }
@@ -198,7 +198,7 @@ fn irrigation_counts_for_plants_but_not_for_the_storm() {
 #[test]
 fn a_queue_filled_to_its_limit() {
     let depths: Vec<u32> = (1..=30).map(|k| 1_000_000 * k).collect();
-    let (site, soil, mut rows) = (card(1, &depths), [0, 1, 1000, 0, 1], [0; 32]);
+    let (site, soil, mut rows) = (card(1, &depths), [0, 1, 1000, 0, 1], [0; ROW]);
     for count in 0..30 {
         let head = (-((30 - count) as f32)).to_bits();
         let (rain, irrig) = (1_000_000, 1_000_000);

@@ -2,7 +2,7 @@
 
 use super::{card, example, PLOT};
 use crate::made::dice::Dice;
-use crate::numbers::{Card, Entry, Reading};
+use crate::numbers::{Card, Entry, Reading, ROW};
 use crate::outbox::Outbox;
 use crate::step::enter;
 use std::collections::BTreeMap;
@@ -11,7 +11,7 @@ use std::collections::BTreeMap;
 struct Link {
     outbox: Outbox,
     site: Card,
-    rows: [u32; 32],
+    rows: [u32; ROW],
     entries: Vec<Entry>,
     acknowledgements: Vec<(u32, u32)>,
     /// What the node made in each life: what may be accepted at each count.
@@ -34,7 +34,7 @@ impl Link {
         Link {
             outbox: Outbox::fresh(0).unwrap(),
             site: card(1, &[]),
-            rows: [0; 32],
+            rows: [0; ROW],
             entries: Vec::new(),
             acknowledgements: Vec::new(),
             made: BTreeMap::new(),

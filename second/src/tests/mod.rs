@@ -1,15 +1,17 @@
-//! The page's own cases, each refusal number, voids, shares, texts, books, made journals and the outbox.
+//! The page's own cases, each refusal number, voids, shares, sums, moves, texts, books, made journals and the outbox.
 
 mod book;
 mod edges;
 mod heads;
 mod link;
 mod made;
+mod moves;
 mod outbox;
 mod refusals;
 mod share_texts;
 mod shares;
 mod sheets;
+mod sums;
 mod texts;
 mod void_texts;
 mod voids;

@@ -1,7 +1,7 @@
 //! Each refusal number, both sides of its edge, and the order of the checks.
 
 use super::{card, example, PLOT};
-use crate::numbers::{Amounts, Card, Reading};
+use crate::numbers::{Amounts, Card, Reading, OLD_ROW, ROW};
 use crate::step::{clear, step};
 
 /// The number of a step that must leave the rows alone if it is refused.
@@ -17,13 +17,13 @@ fn number(card: &Card, soil: &[i64], rows: &[u32], reading: &Reading) -> u32 {
 
 /// The number of a reading on the example's site.
 fn of_reading(reading: &Reading) -> u32 {
-    number(&card(1, &[1_000_000, 2_000_000]), &PLOT, &[0; 32], reading)
+    number(&card(1, &[1_000_000, 2_000_000]), &PLOT, &[0; ROW], reading)
 }
 
 /// The number of the example's reading on a row.
 fn of_row(delays: usize, place: usize, kept: u32) -> u32 {
     let depths: Vec<u32> = (1..=delays as u32).collect();
-    let mut rows = [0; 32];
+    let mut rows = [0; ROW];
     rows[place] = kept;
     let turn = Reading { life: rows[0], count: rows[1], ..example() };
     number(&card(1, &depths), &PLOT, &rows, &turn)
@@ -31,7 +31,8 @@ fn of_row(delays: usize, place: usize, kept: u32) -> u32 {
 
 #[test]
 fn number_1() {
-    let of = |card: Card| (number(&card, &PLOT, &[0; 32], &example()), clear(&card, &mut [0; 32]));
+    let of =
+        |card: Card| (number(&card, &PLOT, &[0; ROW], &example()), clear(&card, &mut [0; ROW]));
     assert_eq!(of(card(1, &[])), (0, 0));
     assert_eq!(of(card(1, &[1, 2, 1_000_000_000])), (0, 0));
     assert_eq!(of(card(0, &[])), (1, 1));
@@ -50,21 +51,23 @@ fn number_1() {
 #[test]
 fn number_2() {
     let site = card(1, &[]);
-    assert_eq!(number(&site, &PLOT[..4], &[0; 32], &example()), 2);
-    assert_eq!(number(&site, &[0; 6], &[0; 32], &example()), 2);
-    assert_eq!(number(&site, &PLOT, &[0; 31], &example()), 2);
-    assert_eq!(number(&site, &PLOT, &[0; 33], &example()), 2);
-    assert_eq!(clear(&site, &mut [7; 33]), 2);
+    assert_eq!(number(&site, &PLOT[..4], &[0; ROW], &example()), 2);
+    assert_eq!(number(&site, &[0; 6], &[0; ROW], &example()), 2);
+    assert_eq!(number(&site, &PLOT, &[0; ROW - 1], &example()), 2);
+    assert_eq!(number(&site, &PLOT, &[0; ROW + 1], &example()), 2);
+    assert_eq!(number(&site, &PLOT, &[0; OLD_ROW], &example()), 2);
+    assert_eq!(clear(&site, &mut [7; ROW + 1]), 2);
+    assert_eq!(clear(&site, &mut [7; OLD_ROW]), 2);
 }
 
 #[test]
 fn clearing() {
-    let mut rows = [7; 64];
+    let mut rows = [7; 2 * ROW];
     assert_eq!(clear(&card(1, &[]), &mut rows), 2);
     assert_eq!(clear(&card(2, &[0]), &mut rows), 1);
-    assert_eq!(rows, [7; 64]);
+    assert_eq!(rows, [7; 2 * ROW]);
     assert_eq!(clear(&card(2, &[]), &mut rows), 0);
-    assert_eq!(rows, [0; 64]);
+    assert_eq!(rows, [0; 2 * ROW]);
 }
 
 #[test]
@@ -78,7 +81,7 @@ fn number_4() {
     let of = |place: usize, soil_number: i64| {
         let mut soil = PLOT;
         soil[place] = soil_number;
-        number(&card(1, &[]), &soil, &[0; 32], &example())
+        number(&card(1, &[]), &soil, &[0; ROW], &example())
     };
     let edges =
         [(-10_000_000_000, 10_000_000_000), (1, 100_000_000), (1, 1000), (0, 1_000_000), (1, 100)];
@@ -107,7 +110,7 @@ fn number_5() {
 #[test]
 fn numbers_6_and_7() {
     let site = card(1, &[]);
-    let mut rows = [0; 32];
+    let mut rows = [0; ROW];
     (rows[0], rows[1]) = (3, 7);
     let of = |life, count| number(&site, &PLOT, &rows, &Reading { life, count, ..example() });
     assert_eq!(of(3, 6), 6);
@@ -151,10 +154,12 @@ fn numbers_9_and_10() {
 /// Each fault, put in from the last check to the first, takes over the number.
 #[test]
 fn the_order_of_the_checks() {
-    let (mut site, mut soil, mut rows) = (card(2, &[5]), [PLOT, PLOT].concat(), vec![0; 64]);
-    (rows[32], rows[33]) = (3, 7);
+    let (mut site, mut soil, mut rows) = (card(2, &[5]), [PLOT, PLOT].concat(), vec![0; 72]);
+    (rows[ROW], rows[ROW + 1]) = (3, 7);
     let mut reading = Reading { cell: 1, life: 3, count: 7, ..example() };
     assert_eq!(number(&site, &soil, &rows, &reading), 0);
+    rows[ROW + 32..].copy_from_slice(&[232_830_643, 2_808_348_672, 0, 0]);
+    assert_eq!(number(&site, &soil, &rows, &reading), 15);
     reading.head = 0x7149_f2ca;
     assert_eq!(number(&site, &soil, &rows, &reading), 10);
     reading.head = 0x7fc0_0000;
@@ -165,7 +170,7 @@ fn the_order_of_the_checks() {
     assert_eq!(number(&site, &soil, &rows, &reading), 7);
     reading.life = 2;
     assert_eq!(number(&site, &soil, &rows, &reading), 6);
-    rows[63] = 1;
+    rows[ROW + 31] = 1;
     assert_eq!(number(&site, &soil, &rows, &reading), 5);
     soil[9] = 0;
     assert_eq!(number(&site, &soil, &rows, &reading), 4);
@@ -181,18 +186,18 @@ fn the_order_of_the_checks() {
 fn only_the_named_row_changes_or_counts() {
     let site = card(3, &[1]);
     let soil = [[0; 5], PLOT, [0; 5]].concat();
-    let mut rows = vec![u32::MAX; 96];
-    rows[32..64].fill(0);
+    let mut rows = vec![u32::MAX; 3 * ROW];
+    rows[ROW..2 * ROW].fill(0);
     let (number, _) = step(&site, &soil, &mut rows, &Reading { cell: 1, ..example() });
     assert_eq!(number, 0);
-    assert_eq!(rows[32..35], [0, 1, 34_513]);
-    assert!(rows[..32].iter().chain(&rows[64..]).all(|kept| *kept == u32::MAX));
+    assert_eq!(rows[ROW..ROW + 3], [0, 1, 34_513]);
+    assert!(rows[..ROW].iter().chain(&rows[2 * ROW..]).all(|kept| *kept == u32::MAX));
 }
 
 #[test]
 fn a_refused_count_may_be_used_again() {
     let site = card(1, &[]);
-    let mut rows = [0; 32];
+    let mut rows = [0; ROW];
     for wrong in [Reading { amc: 9, ..example() }, Reading { head: u32::MAX, ..example() }] {
         assert_ne!(step(&site, &PLOT, &mut rows, &wrong).0, 0);
     }

@@ -1,7 +1,7 @@
 //! The share of the first wetting: what it does to storm runoff, and its range.
 
 use super::{card, example, PLOT};
-use crate::numbers::{Amounts, Card, Reading, Void};
+use crate::numbers::{Amounts, Card, Reading, Void, OLD_ROW, ROW};
 use crate::rules::storm_runoff;
 use crate::step::{check, clear, step, void};
 
@@ -90,7 +90,7 @@ fn every_share_shows() {
 /// The number and runoff of the example's reading, the table at a head.
 fn stepped(share: u32, head: u32) -> (u32, i64) {
     let reading = Reading { head, ..example() };
-    let (number, amounts) = step(&of(share), &PLOT, &mut [0; 32], &reading);
+    let (number, amounts) = step(&of(share), &PLOT, &mut [0; ROW], &reading);
     (number, amounts.runoff)
 }
 
@@ -109,7 +109,7 @@ fn a_shallow_table_and_the_share() {
     let soil = [50_000, 1_500_000, 200, 100_000, 80];
     let runoff = |share| {
         let reading = Reading { head: 0, ..example() };
-        step(&of(share), &soil, &mut [0; 32], &reading).1.runoff
+        step(&of(share), &soil, &mut [0; ROW], &reading).1.runoff
     };
     assert_eq!([20, 5].map(runoff), [50_800 - 7_187, 50_800 - 5_982]);
 }
@@ -117,16 +117,16 @@ fn a_shallow_table_and_the_share() {
 #[test]
 fn only_rain_wets_first() {
     let reading = Reading { rain: 3_428, irrig: 900_000, head: 0xf149_f2ca, ..example() };
-    let (number, amounts) = step(&of(5), &PLOT, &mut [0; 32], &reading);
+    let (number, amounts) = step(&of(5), &PLOT, &mut [0; ROW], &reading);
     assert_eq!((number, amounts.runoff), (0, 1));
 }
 
 /// The numbers of a step, a void and a clearing on a card with this share, which leave the rows if they refuse.
 fn numbers(share: u32) -> [u32; 3] {
-    let (site, rows) = (of(share), [7; 32]);
+    let (site, rows) = (of(share), [7; ROW]);
     let turn = Void { cell: 0, life: 7, count: 7 };
     let mut slots = rows;
-    slots[4..].fill(0);
+    slots[4..OLD_ROW].fill(0);
     let (mut stepped, mut voided, mut cleared) = (slots, slots, rows);
     let (number, amounts) =
         step(&site, &PLOT, &mut stepped, &Reading { life: 7, count: 7, ..example() });
@@ -134,7 +134,7 @@ fn numbers(share: u32) -> [u32; 3] {
     let number_of_clearing = clear(&site, &mut cleared);
     assert_eq!(number != 0, stepped == slots && amounts == Amounts::default());
     assert_eq!(number_of_void != 0, voided == slots && void_amounts == Amounts::default());
-    assert_eq!(cleared, if number_of_clearing == 0 { [0; 32] } else { rows });
+    assert_eq!(cleared, if number_of_clearing == 0 { [0; ROW] } else { rows });
     [number, number_of_void, number_of_clearing]
 }
 
@@ -158,11 +158,11 @@ fn shares_out_of_range_give_1() {
 fn the_share_is_a_matter_of_the_card() {
     let wrong = Reading { cell: 9, life: u32::MAX, amc: 0, head: u32::MAX, ..example() };
     for share in [0, 4, 21, u32::MAX] {
-        assert_eq!(check(&of(share), &[0; 4], &[9; 31], &wrong), 1);
-        assert_eq!(clear(&of(share), &mut [9; 31]), 1);
+        assert_eq!(check(&of(share), &[0; 4], &[9; ROW - 1], &wrong), 1);
+        assert_eq!(clear(&of(share), &mut [9; ROW - 1]), 1);
     }
-    assert_eq!(check(&of(5), &[0; 4], &[9; 31], &wrong), 2);
-    assert_eq!(clear(&of(5), &mut [9; 31]), 2);
+    assert_eq!(check(&of(5), &[0; 4], &[9; ROW - 1], &wrong), 2);
+    assert_eq!(clear(&of(5), &mut [9; ROW - 1]), 2);
     assert!(!Card::ZEROS.in_range() && Card::ZEROS.share == 0 && Card::BLANK.share == 20);
 }
 
@@ -170,7 +170,7 @@ fn the_share_is_a_matter_of_the_card() {
 #[test]
 fn without_rain_the_share_changes_nothing() {
     let reading = Reading { rain: 0, irrig: 4_000, ..example() };
-    let mut rows = [0; 32];
+    let mut rows = [0; ROW];
     (rows[2], rows[3]) = (5_000, 700);
     let days = [5, 11, 20].map(|share| {
         let (mut stepped, mut voided) = (rows, rows);

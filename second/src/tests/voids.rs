@@ -1,7 +1,7 @@
 //! Voids: which turns they may use up, what they do to the queue, and the checks that they pass.
 
 use super::{card, example, PLOT};
-use crate::numbers::{slot_limit, Amounts, Card, Reading, Void};
+use crate::numbers::{slot_limit, Amounts, Card, Reading, Void, OLD_ROW, ROW};
 use crate::step::{step, void};
 
 /// The number of a void that must leave the rows alone if it is refused.
@@ -26,9 +26,9 @@ fn released(release: i64, left: i64) -> Amounts {
 }
 
 /// A card of one cell with so many delays, and a row with each slot at its limit.
-fn full(delays: u32) -> (Card, [u32; 32]) {
+fn full(delays: u32) -> (Card, [u32; ROW]) {
     let depths: Vec<u32> = (1..=delays).collect();
-    let mut rows = [0; 32];
+    let mut rows = [0; ROW];
     for k in 1..=delays {
         rows[1 + k as usize] = slot_limit(k, delays);
     }
@@ -45,7 +45,7 @@ fn a_full_queue_of_3() {
         assert_eq!(answer, (0, released(release, left)));
         assert_eq!(rows[..2], [0, count as u32 + 1]);
     }
-    assert_eq!(rows[2..], [0; 30]);
+    assert_eq!(rows[2..], [0; 34]);
 }
 
 #[test]
@@ -60,13 +60,13 @@ fn the_slots_move_up_by_one() {
 fn no_delays() {
     let (site, mut rows) = full(0);
     assert_eq!(void(&site, &PLOT, &mut rows, &of(0, 0)), (0, released(0, 0)));
-    assert_eq!((rows[..2].to_vec(), rows[2..].to_vec()), (vec![0, 1], vec![0; 30]));
+    assert_eq!((rows[..2].to_vec(), rows[2..].to_vec()), (vec![0, 1], vec![0; 34]));
 }
 
 #[test]
 fn a_full_queue_of_30() {
     let (site, mut rows) = full(30);
-    let waits = |rows: &[u32]| rows[2..].iter().map(|slot| i64::from(*slot)).sum::<i64>();
+    let waits = |rows: &[u32]| rows[2..OLD_ROW].iter().map(|slot| i64::from(*slot)).sum::<i64>();
     assert_eq!(waits(&rows), 930_000_000);
     for count in 0..30 {
         let (due, before) = (i64::from(rows[2]), waits(&rows));
@@ -79,7 +79,7 @@ fn a_full_queue_of_30() {
 
 #[test]
 fn the_first_entry() {
-    let (site, mut rows) = (card(1, &[1_000_000, 2_000_000]), [0; 32]);
+    let (site, mut rows) = (card(1, &[1_000_000, 2_000_000]), [0; ROW]);
     assert_eq!(void(&site, &PLOT, &mut rows, &of(0, 0)), (0, released(0, 0)));
     let second = Reading { count: 1, ..example() };
     assert_eq!(step(&site, &PLOT, &mut rows, &second).0, 0);
@@ -130,15 +130,15 @@ fn a_new_life() {
 /// Each fault, put in from the last check to the first, takes over the number.
 #[test]
 fn the_order_of_the_checks() {
-    let (mut site, mut soil, mut rows) = (card(2, &[5]), [PLOT, PLOT].concat(), vec![0; 64]);
-    (rows[32], rows[33]) = (3, 1_000_000);
+    let (mut site, mut soil, mut rows) = (card(2, &[5]), [PLOT, PLOT].concat(), vec![0; 72]);
+    (rows[ROW], rows[ROW + 1]) = (3, 1_000_000);
     let mut notice = Void { cell: 1, life: 3, count: 1_000_000 };
     assert_eq!(number(&site, &soil, &rows, notice), 8);
     notice.count += 1;
     assert_eq!(number(&site, &soil, &rows, notice), 7);
     notice.life = 2;
     assert_eq!(number(&site, &soil, &rows, notice), 6);
-    rows[63] = 1;
+    rows[ROW + 31] = 1;
     assert_eq!(number(&site, &soil, &rows, notice), 5);
     soil[9] = 0;
     assert_eq!(number(&site, &soil, &rows, notice), 4);
@@ -154,7 +154,7 @@ fn the_order_of_the_checks() {
 fn slices_and_cells_out() {
     let (site, rows) = full(3);
     assert_eq!(number(&site, &PLOT[..4], &rows, of(0, 0)), 2);
-    assert_eq!(number(&site, &PLOT, &rows[..31], of(0, 0)), 2);
+    assert_eq!(number(&site, &PLOT, &rows[..ROW - 1], of(0, 0)), 2);
     for cell in [1, 256, u32::MAX] {
         assert_eq!(number(&site, &PLOT, &rows, Void { cell, life: 0, count: 0 }), 3);
     }
@@ -163,7 +163,8 @@ fn slices_and_cells_out() {
 #[test]
 fn a_bad_row() {
     let (site, rows) = full(3);
-    for (place, kept) in [(0, 65_536), (1, 1_000_001), (2, 6_000_001), (5, 1), (31, u32::MAX)] {
+    let slots = [(0, 65_536), (1, 1_000_001), (2, 6_000_001), (5, 1), (31, u32::MAX)];
+    for (place, kept) in slots.into_iter().chain([(32, 232_830_644), (34, u32::MAX)]) {
         let mut bad = rows;
         bad[place] = kept;
         assert_eq!(number(&site, &PLOT, &bad, of(0, 0)), 5, "place {place}");
@@ -174,18 +175,18 @@ fn a_bad_row() {
 fn only_the_named_row_changes_or_counts() {
     let site = card(3, &[1]);
     let soil = [[0; 5], PLOT, [0; 5]].concat();
-    let mut rows = vec![u32::MAX; 96];
-    rows[32..64].fill(0);
-    rows[34] = 9;
+    let mut rows = vec![u32::MAX; 3 * ROW];
+    rows[ROW..2 * ROW].fill(0);
+    rows[ROW + 2] = 9;
     let notice = Void { cell: 1, life: 0, count: 0 };
     assert_eq!(void(&site, &soil, &mut rows, &notice), (0, released(9, 0)));
-    assert_eq!(rows[32..35], [0, 1, 0]);
-    assert!(rows[..32].iter().chain(&rows[64..]).all(|kept| *kept == u32::MAX));
+    assert_eq!(rows[ROW..ROW + 3], [0, 1, 0]);
+    assert!(rows[..ROW].iter().chain(&rows[2 * ROW..]).all(|kept| *kept == u32::MAX));
 }
 
 #[test]
 fn a_refused_reading_leaves_its_count_to_a_void() {
-    let (site, mut rows) = (card(1, &[]), [0; 32]);
+    let (site, mut rows) = (card(1, &[]), [0; ROW]);
     for wrong in [Reading { amc: 9, ..example() }, Reading { head: u32::MAX, ..example() }] {
         assert_ne!(step(&site, &PLOT, &mut rows, &wrong).0, 0);
     }
