@@ -29,7 +29,7 @@ use Rattle.cell.specs.Parts.{Checked}
 use Rattle.cell.specs.Depth.{distance, depthOf}
 use Rattle.cell.specs.Ranges.{cardOk, soilOk, soilOf, rowOk, noticeOk, fieldsOk, noticeOf, lifeOf, nextOf, queueOf}
 use Rattle.cell.specs.RangeLaws.{card-in, soil-in, fields-in}
-use Rattle.cell.specs.Refusals.{refusalNumber, firstFailing, numberOf, isOld, isGap, isUnusable, isInactive, depthAt, sounded, fieldChecks, unless, fieldsVerdict, verdictFrom, verdictOf}
+use Rattle.cell.specs.Refusals.{refusalNumber, firstFailing, numberOf, isOld, isGap, isUnusable, isInactive, depthAt, sounded, fieldChecks, unless, fieldsVerdict, verdictOf}
 use Rattle.cell.specs.Step.{amountsBy, sumsTake, judged, finalOf, sumChecks, answerOf}
 use Rattle.cell.specs.RuleLaws.{depth-le}
 use Rattle.cell.specs.Still.{readingOf}
@@ -50,7 +50,7 @@ unless-fine true why v d e = (refl, e)
 unless-fine false why v d e = let z : _≡_ {A = ℕ} 0 1 = cc in absurd (omega arith)
 
 pub passed : (card : Card) (soil : List ℤ) (row : List ℕ) (e : Entry) (d : Depth) → verdictOf card soil row e ≡ Fine d → Passed card soil row e d
-unfolding verdictOf verdictFrom
+unfolding verdictOf
 passed card soil row e d f =
     let p1 = unless-fine _ _ _ d f in
     let p2 = unless-fine _ _ _ d (p1 .1) in
@@ -61,7 +61,7 @@ passed card soil row e d f =
 
 -- and where all are passed, the verdict is that depth
 pub verdict-fine : (card : Card) (soil : List ℤ) (row : List ℕ) (e : Entry) (d : Depth) → Passed card soil row e d → verdictOf card soil row e ≡ Fine d
-unfolding verdictOf verdictFrom unless
+unfolding verdictOf unless
 verdict-fine card soil row e d p = rw (p .card-ok, p .soil-ok, p .row-ok, p .not-old, p .not-gap) (p .fields-fine)
 
 -- [6] all checks: those up to 10, and then 15
@@ -105,7 +105,7 @@ fields-other top (Entry.Void n) =
     unless-other (noticeOk n) BadReading _ (λ f. let z : _≡_ {A = ℕ} 0 1 = cc in omega arith) (λ f. let z : _≡_ {A = ℕ} 0 1 = cc in omega arith)
 
 pub verdict-other : (card : Card) (soil : List ℤ) (row : List ℕ) (e : Entry) → ¬ (verdictOf card soil row e ≡ Bad FullSums)
-unfolding verdictOf verdictFrom
+unfolding verdictOf
 verdict-other card soil row e =
     unless-other _ BadCard _ (λ f. let z : _≡_ {A = ℕ} 0 1 = cc in omega arith)
     (unless-other _ BadSoil _ (λ f. let z : _≡_ {A = ℕ} 0 1 = cc in omega arith)
@@ -116,7 +116,7 @@ verdict-other card soil row e =
 
 -- check 1 comes first
 pub verdict-card : (card : Card) (soil : List ℤ) (row : List ℕ) (e : Entry) → cardOk card ≡ false → verdictOf card soil row e ≡ Bad BadCard
-unfolding verdictOf verdictFrom unless
+unfolding verdictOf unless
 verdict-card card soil row e f = rw f
 
 -- a head that passes lies within 20,000,000,000 of a top in range
@@ -276,7 +276,7 @@ module _ (card : Card) (soil : List ℤ) (row : List ℕ) (e : Entry) where
   rowChecks = firstChecks ++ sumChecks card soil row e
 
   verdict-number : verdictNumber (verdictOf card soil row e) ≡ firstFailing firstChecks
-  unfolding verdictOf verdictFrom
+  unfolding verdictOf
   verdict-number = simp (unless-number, fields-number)
 
   final-number : verdictNumber (finalOf card soil row e) ≡ firstFailing rowChecks

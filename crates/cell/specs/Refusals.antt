@@ -133,15 +133,17 @@ unfoldable pub fieldsVerdict : ℤ → Entry → Verdict
 fieldsVerdict top (Entry.Reading r) = unless (fieldsOk r) BadReading (sounded top (classOf (r .head)))
 fieldsVerdict top (Entry.Void n) = unless (noticeOk n) BadReading (Fine dryDepth)
 
--- the first check up to 10 that fails, in their order; 2 and 3 are the site's. Of the row it asks whether it is in range, its life and its next count
-unfoldable pub verdictFrom : Card → List ℤ → Bool → ℕ → ℕ → Entry → Verdict
-verdictFrom card soil fits life next e =
-    unless (cardOk card) BadCard
-    (unless (soilOk soil) BadSoil
-    (unless fits BadRow
+-- the checks from 5 to 10, in their order: of the row they ask whether it is in range, its life and its next count
+abbrev pub rowVerdict : ℤ → Bool → ℕ → ℕ → Entry → Verdict
+rowVerdict top fits life next e =
+    unless fits BadRow
     (unless (not (isOld life next (noticeOf e))) Old
     (unless (not (isGap life next (noticeOf e))) Gap
-    (fieldsVerdict (getD soil 0 (pos 0)) e)))))
+    (fieldsVerdict top e)))
 
+-- the first check up to 10 that fails; 2 and 3 are the site's
 unfoldable pub verdictOf : Card → List ℤ → List ℕ → Entry → Verdict
-verdictOf card soil row e = verdictFrom card soil (rowOk card row) (lifeOf row) (nextOf row) e
+verdictOf card soil row e =
+    unless (cardOk card) BadCard
+    (unless (soilOk soil) BadSoil
+    (rowVerdict (getD soil 0 (pos 0)) (rowOk card row) (lifeOf row) (nextOf row) e))

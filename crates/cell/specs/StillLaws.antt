@@ -20,7 +20,7 @@ use Rattle.cell.specs.Depth.{dryDepth}
 use Rattle.cell.specs.Ranges.{noticed, noticeOf, noticeOk, fieldsOk, queueOf, rowOk}
 use Rattle.cell.specs.RangeLaws.{row-in}
 use Rattle.cell.specs.Sums.{runoffAt, drainAt, sumLimit, sumOf}
-use Rattle.cell.specs.Refusals.{sounded, unless, fieldsVerdict, verdictFrom, verdictOf}
+use Rattle.cell.specs.Refusals.{sounded, unless, fieldsVerdict, verdictOf}
 use Rattle.cell.specs.Parts.{Checked}
 use Rattle.cell.specs.Queue.{slot, shifted}
 use Rattle.cell.specs.QueueLaws.{spared-none, joined-none}
@@ -48,7 +48,7 @@ fields-as top (Entry.Reading r) = refl
 fields-as top (Entry.Void n) = rw (fields-still n, dry-mark)
 
 pub verdict-as : (card : Card) (soil : List ℤ) (row : List ℕ) (e : Entry) → verdictOf card soil row (Entry.Reading (readingOf e)) ≡ verdictOf card soil row e
-unfolding verdictOf verdictFrom
+unfolding verdictOf
 verdict-as card soil row e = rw (notice-as e, fields-as (getD soil 0 (pos 0)) e)
 
 -- a void that passes is at the dry depth

@@ -17,7 +17,7 @@ use Rattle.cell.specs.Depth.{sided, depthOf, distance}
 use Rattle.cell.specs.Queue.{slot, total, shifted, taken, spared, joined}
 use Rattle.cell.specs.Sums.{sumOf, withSum, added}
 use Rattle.cell.specs.Ranges.{countsOk, noneOf, risingFrom, depthsOk, shareOk, cardOk, within, soilOk, soilOf, lifeOf, nextOf, slotsOf, queueOf, slotsOk, rowWidth, formOk, rowOk, noticeOk, fieldsOk, cellOf}
-use Rattle.cell.specs.Refusals.{isOld, isGap, sounded, unless, fieldsVerdict, verdictFrom, verdictOf}
+use Rattle.cell.specs.Refusals.{isOld, isGap, sounded, unless, fieldsVerdict, verdictOf}
 use Rattle.cell.specs.Rules.{curveOf, stormOf, reachOf, delayOf, shallowOf, runoffOf, lackOf, fadingOf, etsatOf, drainOf, storedOf, directOf, rechargeOf}
 use Rattle.cell.specs.Step.{given, release, curve, storm, delay, runoff, etvad, lack, draws, etstor, etsat, drain, sunk, stored, direct, recharge, queueAfter, stepAmounts, shiftAmounts, amountsBy, queueBy, rowMoved, runoffBy, drainBy, rowAfter, sumsTake, judged, finalOf, answerOf, newRow}
 use Rattle.site.specs.Rows.{partAt, putAt}
@@ -99,33 +99,33 @@ ended = learning 0 G (answering 0 G both) (record { life = 1; next = 2; heard = 
 
 -- ---- each event is one that may happen
 runs-repeated : Run 0 G repeated
-unfolding card soil cleared takes floorDiv usable floorUm levelUm classOf carriedOf patternOf isNan nanBits ofBits toBits sided depthOf distance slot total shifted taken spared joined sumOf withSum added countsOk noneOf risingFrom depthsOk shareOk cardOk within soilOk soilOf lifeOf nextOf slotsOf queueOf slotsOk formOk rowOk noticeOk fieldsOk isOld isGap sounded unless fieldsVerdict verdictFrom verdictOf curveOf stormOf reachOf delayOf shallowOf runoffOf lackOf fadingOf etsatOf drainOf storedOf directOf rechargeOf given release curve storm delay runoff etvad lack draws etstor etsat drain sunk stored direct recharge queueAfter stepAmounts shiftAmounts amountsBy queueBy rowMoved runoffBy drainBy rowAfter sumsTake judged finalOf answerOf newRow partAt putAt soilFits rowsFit cellFits refuse siteAnswer rowsBy siteRows box.same box.isZero box.padded box.heldOf box.boxOf box.numbersOk box.inTurn box.allSpare box.formOk box.unless box.freshOf box.oldest box.offerOf box.isNext box.withEntry box.addedOf box.replacing box.replacedOf box.isHeard box.without box.acknowledgedOf box.isHigher box.swappedOf
+unfolding card soil cleared takes floorDiv usable floorUm levelUm classOf carriedOf patternOf isNan nanBits ofBits toBits sided depthOf distance slot total shifted taken spared joined sumOf withSum added countsOk noneOf risingFrom depthsOk shareOk cardOk within soilOk soilOf lifeOf nextOf slotsOf queueOf slotsOk formOk rowOk noticeOk fieldsOk isOld isGap sounded unless fieldsVerdict verdictOf curveOf stormOf reachOf delayOf shallowOf runoffOf lackOf fadingOf etsatOf drainOf storedOf directOf rechargeOf given release curve storm delay runoff etvad lack draws etstor etsat drain sunk stored direct recharge queueAfter stepAmounts shiftAmounts amountsBy queueBy rowMoved runoffBy drainBy rowAfter sumsTake judged finalOf answerOf newRow partAt putAt soilFits rowsFit cellFits refuse siteAnswer rowsBy siteRows box.same box.isZero box.padded box.heldOf box.boxOf box.numbersOk box.inTurn box.allSpare box.formOk box.unless box.freshOf box.oldest box.offerOf box.isNext box.withEntry box.addedOf box.replacing box.replacedOf box.isHeard box.without box.acknowledgedOf box.isHigher box.swappedOf
 runs-repeated =
     let s : Run 0 G sent = sends (makes (makes (starts cleared refl refl refl) (day 0 0 50800)) (day 0 1 1000001)) (day 0 0 50800) (inl refl) in
     hears (hears s (step (day 0 0 50800)) _ _ (given-it _ (day 0 0 50800)) (inl (inl refl))) (step (day 0 0 50800)) _ _ (given-it _ (day 0 0 50800)) (inl (inl refl))
 
 runs-told : Run 0 G told
-unfolding card soil cleared takes floorDiv usable floorUm levelUm classOf carriedOf patternOf isNan nanBits ofBits toBits sided depthOf distance slot total shifted taken spared joined sumOf withSum added countsOk noneOf risingFrom depthsOk shareOk cardOk within soilOk soilOf lifeOf nextOf slotsOf queueOf slotsOk formOk rowOk noticeOk fieldsOk isOld isGap sounded unless fieldsVerdict verdictFrom verdictOf curveOf stormOf reachOf delayOf shallowOf runoffOf lackOf fadingOf etsatOf drainOf storedOf directOf rechargeOf given release curve storm delay runoff etvad lack draws etstor etsat drain sunk stored direct recharge queueAfter stepAmounts shiftAmounts amountsBy queueBy rowMoved runoffBy drainBy rowAfter sumsTake judged finalOf answerOf newRow partAt putAt soilFits rowsFit cellFits refuse siteAnswer rowsBy siteRows box.same box.isZero box.padded box.heldOf box.boxOf box.numbersOk box.inTurn box.allSpare box.formOk box.unless box.freshOf box.oldest box.offerOf box.isNext box.withEntry box.addedOf box.replacing box.replacedOf box.isHeard box.without box.acknowledgedOf box.isHigher box.swappedOf
+unfolding card soil cleared takes floorDiv usable floorUm levelUm classOf carriedOf patternOf isNan nanBits ofBits toBits sided depthOf distance slot total shifted taken spared joined sumOf withSum added countsOk noneOf risingFrom depthsOk shareOk cardOk within soilOk soilOf lifeOf nextOf slotsOf queueOf slotsOk formOk rowOk noticeOk fieldsOk isOld isGap sounded unless fieldsVerdict verdictOf curveOf stormOf reachOf delayOf shallowOf runoffOf lackOf fadingOf etsatOf drainOf storedOf directOf rechargeOf given release curve storm delay runoff etvad lack draws etstor etsat drain sunk stored direct recharge queueAfter stepAmounts shiftAmounts amountsBy queueBy rowMoved runoffBy drainBy rowAfter sumsTake judged finalOf answerOf newRow partAt putAt soilFits rowsFit cellFits refuse siteAnswer rowsBy siteRows box.same box.isZero box.padded box.heldOf box.boxOf box.numbersOk box.inTurn box.allSpare box.formOk box.unless box.freshOf box.oldest box.offerOf box.isNext box.withEntry box.addedOf box.replacing box.replacedOf box.isHeard box.without box.acknowledgedOf box.isHigher box.swappedOf
 runs-told = learns (answers runs-repeated) (record { life = 0; next = 1; heard = day 0 0 50800 ∷ [] }) (inl refl)
 
 runs-voided : Run 0 G voided
-unfolding card soil cleared takes floorDiv usable floorUm levelUm classOf carriedOf patternOf isNan nanBits ofBits toBits sided depthOf distance slot total shifted taken spared joined sumOf withSum added countsOk noneOf risingFrom depthsOk shareOk cardOk within soilOk soilOf lifeOf nextOf slotsOf queueOf slotsOk formOk rowOk noticeOk fieldsOk isOld isGap sounded unless fieldsVerdict verdictFrom verdictOf curveOf stormOf reachOf delayOf shallowOf runoffOf lackOf fadingOf etsatOf drainOf storedOf directOf rechargeOf given release curve storm delay runoff etvad lack draws etstor etsat drain sunk stored direct recharge queueAfter stepAmounts shiftAmounts amountsBy queueBy rowMoved runoffBy drainBy rowAfter sumsTake judged finalOf answerOf newRow partAt putAt soilFits rowsFit cellFits refuse siteAnswer rowsBy siteRows box.same box.isZero box.padded box.heldOf box.boxOf box.numbersOk box.inTurn box.allSpare box.formOk box.unless box.freshOf box.oldest box.offerOf box.isNext box.withEntry box.addedOf box.replacing box.replacedOf box.isHeard box.without box.acknowledgedOf box.isHigher box.swappedOf
+unfolding card soil cleared takes floorDiv usable floorUm levelUm classOf carriedOf patternOf isNan nanBits ofBits toBits sided depthOf distance slot total shifted taken spared joined sumOf withSum added countsOk noneOf risingFrom depthsOk shareOk cardOk within soilOk soilOf lifeOf nextOf slotsOf queueOf slotsOk formOk rowOk noticeOk fieldsOk isOld isGap sounded unless fieldsVerdict verdictOf curveOf stormOf reachOf delayOf shallowOf runoffOf lackOf fadingOf etsatOf drainOf storedOf directOf rechargeOf given release curve storm delay runoff etvad lack draws etstor etsat drain sunk stored direct recharge queueAfter stepAmounts shiftAmounts amountsBy queueBy rowMoved runoffBy drainBy rowAfter sumsTake judged finalOf answerOf newRow partAt putAt soilFits rowsFit cellFits refuse siteAnswer rowsBy siteRows box.same box.isZero box.padded box.heldOf box.boxOf box.numbersOk box.inTurn box.allSpare box.formOk box.unless box.freshOf box.oldest box.offerOf box.isNext box.withEntry box.addedOf box.replacing box.replacedOf box.isHeard box.without box.acknowledgedOf box.isHigher box.swappedOf
 runs-voided =
     let s : Run 0 G replaced = puts-void (hears (sends runs-told (day 0 1 1000001) (inl refl)) (step (day 0 1 1000001)) _ _ (given-it _ (day 0 1 1000001)) (inl (inr (inl refl)))) in
     makes (hears (sends s (voidOf (day 0 1 1000001)) (inl refl)) (step (voidOf (day 0 1 1000001))) _ _ (given-it _ (voidOf (day 0 1 1000001))) (inl (inr (inr (inl refl))))) (day 0 2 0)
 
 runs-learnt : Run 0 G learnt
-unfolding card soil cleared takes floorDiv usable floorUm levelUm classOf carriedOf patternOf isNan nanBits ofBits toBits sided depthOf distance slot total shifted taken spared joined sumOf withSum added countsOk noneOf risingFrom depthsOk shareOk cardOk within soilOk soilOf lifeOf nextOf slotsOf queueOf slotsOk formOk rowOk noticeOk fieldsOk isOld isGap sounded unless fieldsVerdict verdictFrom verdictOf curveOf stormOf reachOf delayOf shallowOf runoffOf lackOf fadingOf etsatOf drainOf storedOf directOf rechargeOf given release curve storm delay runoff etvad lack draws etstor etsat drain sunk stored direct recharge queueAfter stepAmounts shiftAmounts amountsBy queueBy rowMoved runoffBy drainBy rowAfter sumsTake judged finalOf answerOf newRow partAt putAt soilFits rowsFit cellFits refuse siteAnswer rowsBy siteRows box.same box.isZero box.padded box.heldOf box.boxOf box.numbersOk box.inTurn box.allSpare box.formOk box.unless box.freshOf box.oldest box.offerOf box.isNext box.withEntry box.addedOf box.replacing box.replacedOf box.isHeard box.without box.acknowledgedOf box.isHigher box.swappedOf
+unfolding card soil cleared takes floorDiv usable floorUm levelUm classOf carriedOf patternOf isNan nanBits ofBits toBits sided depthOf distance slot total shifted taken spared joined sumOf withSum added countsOk noneOf risingFrom depthsOk shareOk cardOk within soilOk soilOf lifeOf nextOf slotsOf queueOf slotsOk formOk rowOk noticeOk fieldsOk isOld isGap sounded unless fieldsVerdict verdictOf curveOf stormOf reachOf delayOf shallowOf runoffOf lackOf fadingOf etsatOf drainOf storedOf directOf rechargeOf given release curve storm delay runoff etvad lack draws etstor etsat drain sunk stored direct recharge queueAfter stepAmounts shiftAmounts amountsBy queueBy rowMoved runoffBy drainBy rowAfter sumsTake judged finalOf answerOf newRow partAt putAt soilFits rowsFit cellFits refuse siteAnswer rowsBy siteRows box.same box.isZero box.padded box.heldOf box.boxOf box.numbersOk box.inTurn box.allSpare box.formOk box.unless box.freshOf box.oldest box.offerOf box.isNext box.withEntry box.addedOf box.replacing box.replacedOf box.isHeard box.without box.acknowledgedOf box.isHigher box.swappedOf
 runs-learnt = learns (answers runs-voided) (record { life = 0; next = 2; heard = day 0 0 50800 ∷ voidOf (day 0 1 1000001) ∷ [] }) (inr (inl refl))
 
 runs-both : Run 0 G both
-unfolding card soil cleared takes floorDiv usable floorUm levelUm classOf carriedOf patternOf isNan nanBits ofBits toBits sided depthOf distance slot total shifted taken spared joined sumOf withSum added countsOk noneOf risingFrom depthsOk shareOk cardOk within soilOk soilOf lifeOf nextOf slotsOf queueOf slotsOk formOk rowOk noticeOk fieldsOk isOld isGap sounded unless fieldsVerdict verdictFrom verdictOf curveOf stormOf reachOf delayOf shallowOf runoffOf lackOf fadingOf etsatOf drainOf storedOf directOf rechargeOf given release curve storm delay runoff etvad lack draws etstor etsat drain sunk stored direct recharge queueAfter stepAmounts shiftAmounts amountsBy queueBy rowMoved runoffBy drainBy rowAfter sumsTake judged finalOf answerOf newRow partAt putAt soilFits rowsFit cellFits refuse siteAnswer rowsBy siteRows box.same box.isZero box.padded box.heldOf box.boxOf box.numbersOk box.inTurn box.allSpare box.formOk box.unless box.freshOf box.oldest box.offerOf box.isNext box.withEntry box.addedOf box.replacing box.replacedOf box.isHeard box.without box.acknowledgedOf box.isHigher box.swappedOf
+unfolding card soil cleared takes floorDiv usable floorUm levelUm classOf carriedOf patternOf isNan nanBits ofBits toBits sided depthOf distance slot total shifted taken spared joined sumOf withSum added countsOk noneOf risingFrom depthsOk shareOk cardOk within soilOk soilOf lifeOf nextOf slotsOf queueOf slotsOk formOk rowOk noticeOk fieldsOk isOld isGap sounded unless fieldsVerdict verdictOf curveOf stormOf reachOf delayOf shallowOf runoffOf lackOf fadingOf etsatOf drainOf storedOf directOf rechargeOf given release curve storm delay runoff etvad lack draws etstor etsat drain sunk stored direct recharge queueAfter stepAmounts shiftAmounts amountsBy queueBy rowMoved runoffBy drainBy rowAfter sumsTake judged finalOf answerOf newRow partAt putAt soilFits rowsFit cellFits refuse siteAnswer rowsBy siteRows box.same box.isZero box.padded box.heldOf box.boxOf box.numbersOk box.inTurn box.allSpare box.formOk box.unless box.freshOf box.oldest box.offerOf box.isNext box.withEntry box.addedOf box.replacing box.replacedOf box.isHeard box.without box.acknowledgedOf box.isHigher box.swappedOf
 runs-both =
     let s : Run 0 G (sending 0 G (sending 0 G swapped (day 1 0 0)) (day 1 1 700)) = sends (sends (makes (makes (swaps runs-learnt 1) (day 1 0 0)) (day 1 1 700)) (day 1 0 0) (inl refl)) (day 1 1 700) (inr (inl refl)) in
     hears (hears s (step (day 1 0 0)) _ _ (given-it _ (day 1 0 0)) (inl (inr (inr (inr (inl refl)))))) (step (day 1 1 700)) _ _ (given-it _ (day 1 1 700)) (inl (inr (inr (inr (inr (inl refl))))))
 
 pub worked : Run 0 G ended
-unfolding card soil cleared takes floorDiv usable floorUm levelUm classOf carriedOf patternOf isNan nanBits ofBits toBits sided depthOf distance slot total shifted taken spared joined sumOf withSum added countsOk noneOf risingFrom depthsOk shareOk cardOk within soilOk soilOf lifeOf nextOf slotsOf queueOf slotsOk formOk rowOk noticeOk fieldsOk isOld isGap sounded unless fieldsVerdict verdictFrom verdictOf curveOf stormOf reachOf delayOf shallowOf runoffOf lackOf fadingOf etsatOf drainOf storedOf directOf rechargeOf given release curve storm delay runoff etvad lack draws etstor etsat drain sunk stored direct recharge queueAfter stepAmounts shiftAmounts amountsBy queueBy rowMoved runoffBy drainBy rowAfter sumsTake judged finalOf answerOf newRow partAt putAt soilFits rowsFit cellFits refuse siteAnswer rowsBy siteRows box.same box.isZero box.padded box.heldOf box.boxOf box.numbersOk box.inTurn box.allSpare box.formOk box.unless box.freshOf box.oldest box.offerOf box.isNext box.withEntry box.addedOf box.replacing box.replacedOf box.isHeard box.without box.acknowledgedOf box.isHigher box.swappedOf
+unfolding card soil cleared takes floorDiv usable floorUm levelUm classOf carriedOf patternOf isNan nanBits ofBits toBits sided depthOf distance slot total shifted taken spared joined sumOf withSum added countsOk noneOf risingFrom depthsOk shareOk cardOk within soilOk soilOf lifeOf nextOf slotsOf queueOf slotsOk formOk rowOk noticeOk fieldsOk isOld isGap sounded unless fieldsVerdict verdictOf curveOf stormOf reachOf delayOf shallowOf runoffOf lackOf fadingOf etsatOf drainOf storedOf directOf rechargeOf given release curve storm delay runoff etvad lack draws etstor etsat drain sunk stored direct recharge queueAfter stepAmounts shiftAmounts amountsBy queueBy rowMoved runoffBy drainBy rowAfter sumsTake judged finalOf answerOf newRow partAt putAt soilFits rowsFit cellFits refuse siteAnswer rowsBy siteRows box.same box.isZero box.padded box.heldOf box.boxOf box.numbersOk box.inTurn box.allSpare box.formOk box.unless box.freshOf box.oldest box.offerOf box.isNext box.withEntry box.addedOf box.replacing box.replacedOf box.isHeard box.without box.acknowledgedOf box.isHigher box.swappedOf
 worked = learns (answers runs-both) (record { life = 1; next = 2; heard = day 0 0 50800 ∷ voidOf (day 0 1 1000001) ∷ day 1 0 0 ∷ day 1 1 700 ∷ [] }) (inr (inr (inl refl)))
 
 -- ---- what it comes to: the repeat and the frozen gauge's reading are not accepted, their counts are, and only what the gateway had heard left the outbox
@@ -139,5 +139,5 @@ pub comes-to : (repeated .accepted ≡ day 0 0 50800 ∷ [])
     × (ended .accepted ≡ day 0 0 50800 ∷ voidOf (day 0 1 1000001) ∷ day 1 0 0 ∷ day 1 1 700 ∷ [])
     × (entriesIn (both .box) ≡ day 1 0 0 ∷ day 1 1 700 ∷ [])
     × (entriesIn (ended .box) ≡ [])
-unfolding card soil cleared takes floorDiv usable floorUm levelUm classOf carriedOf patternOf isNan nanBits ofBits toBits sided depthOf distance slot total shifted taken spared joined sumOf withSum added countsOk noneOf risingFrom depthsOk shareOk cardOk within soilOk soilOf lifeOf nextOf slotsOf queueOf slotsOk formOk rowOk noticeOk fieldsOk isOld isGap sounded unless fieldsVerdict verdictFrom verdictOf curveOf stormOf reachOf delayOf shallowOf runoffOf lackOf fadingOf etsatOf drainOf storedOf directOf rechargeOf given release curve storm delay runoff etvad lack draws etstor etsat drain sunk stored direct recharge queueAfter stepAmounts shiftAmounts amountsBy queueBy rowMoved runoffBy drainBy rowAfter sumsTake judged finalOf answerOf newRow partAt putAt soilFits rowsFit cellFits refuse siteAnswer rowsBy siteRows box.same box.isZero box.padded box.heldOf box.boxOf box.numbersOk box.inTurn box.allSpare box.formOk box.unless box.freshOf box.oldest box.offerOf box.isNext box.withEntry box.addedOf box.replacing box.replacedOf box.isHeard box.without box.acknowledgedOf box.isHigher box.swappedOf
+unfolding card soil cleared takes floorDiv usable floorUm levelUm classOf carriedOf patternOf isNan nanBits ofBits toBits sided depthOf distance slot total shifted taken spared joined sumOf withSum added countsOk noneOf risingFrom depthsOk shareOk cardOk within soilOk soilOf lifeOf nextOf slotsOf queueOf slotsOk formOk rowOk noticeOk fieldsOk isOld isGap sounded unless fieldsVerdict verdictOf curveOf stormOf reachOf delayOf shallowOf runoffOf lackOf fadingOf etsatOf drainOf storedOf directOf rechargeOf given release curve storm delay runoff etvad lack draws etstor etsat drain sunk stored direct recharge queueAfter stepAmounts shiftAmounts amountsBy queueBy rowMoved runoffBy drainBy rowAfter sumsTake judged finalOf answerOf newRow partAt putAt soilFits rowsFit cellFits refuse siteAnswer rowsBy siteRows box.same box.isZero box.padded box.heldOf box.boxOf box.numbersOk box.inTurn box.allSpare box.formOk box.unless box.freshOf box.oldest box.offerOf box.isNext box.withEntry box.addedOf box.replacing box.replacedOf box.isHeard box.without box.acknowledgedOf box.isHigher box.swappedOf
 comes-to = (refl, refl, refl, refl, refl, refl, refl, refl, refl, refl)

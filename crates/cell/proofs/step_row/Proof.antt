@@ -1,9 +1,14 @@
 -- `cell::step_row` meets its contract: the entry is stepped as a reading, which has its verdict, its amounts and its row. Assumes nothing.
+use native.Mathlib.Omega.{arith}
 use mathlib.Core.Path.{_≡_, refl, sym, ap, _∙_}
 use mathlib.Core.List.{List}
 use Prim.Native.Nat.{ℕ}
 use lib.IntN.{ℤ, pos}
 use lib.ListN.{getD}
+use mir.Facts.{toZ-ofZ}
+use borrow.Author.Needs.{sfits-of}
+use borrow.Author.Tests.{not-true, not-false}
+use Rattle.cell.specs.RangeLaws.{soil-in}
 use Rattle.cell.specs.declared.Card.{Card}
 use Rattle.cell.specs.declared.Entry.{Entry}
 use Rattle.cell.specs.declared.Reading.{Reading}
@@ -15,19 +20,28 @@ use Rattle.cell.specs.declared.Answer.the-variants.{Accepted, Refused}
 use Rattle.cell.specs.declared.checks.Verdict.{Verdict}
 use Rattle.cell.specs.declared.checks.Verdict.the-variants.{Fine, Bad}
 use Rattle.cell.specs.Parts.{Checked, AcceptGives}
-use Rattle.cell.specs.Ranges.{soilOf, queueOf, rowOk, lifeOf, nextOf}
+use Rattle.cell.specs.Ranges.{cardOk, soilOk, soilOf, queueOf, rowOk, lifeOf, nextOf}
 use Rattle.cell.specs.Refusals.{refusalNumber, numberOf, nothing, amountsOf, unless, verdictOf}
-use Rattle.cell.specs.CheckLaws.{Passed, passed, checked}
+use Rattle.cell.specs.CheckLaws.{Passed, passed, checked, verdict-card}
 use Rattle.cell.specs.Still.{readingOf}
 use Rattle.cell.specs.StillLaws.{verdict-as, amounts-as, row-as, take-as}
 use Rattle.cell.specs.Step.{stepAmounts, amountsBy, rowAfter, sumsTake, judged, finalOf, answerOf, newRow, StepGives}
 use mathlib.Core.Bool.{Bool, true, false, cond}
-use Rattle.cell.specs.declared.Refusal.the-variants.{FullSums}
+use Rattle.cell.specs.declared.Refusal.the-variants.{BadSoil, FullSums}
 use Rattle.cell.proofs.Verdict.{verdict-of}
 use Rattle.cell.specs.declared.Amounts.{Amounts}
 use borrow.Author.Needs.{needs}
 use Rattle.cell.proofs.step_row.Statement.{statement}
 use Rattle.cell.proofs.step_row.Tie as tie
+
+-- by a verdict that refuses the row stays
+stays : (card : Card) (soil : List ℤ) (row : List ℕ) (e : Entry) {why : Refusal} → verdictOf card soil row e ≡ Bad why → StepGives card soil row e (Refused why) row
+unfolding answerOf newRow finalOf judged
+stays card soil row e h = record { answer-is = rw h; number-is = rw h; amounts-are = rw h; row-is = rw h }
+
+bad-soil : (card : Card) (soil : List ℤ) (row : List ℕ) (e : Entry) → cardOk card ≡ true → soilOk soil ≡ false → verdictOf card soil row e ≡ Bad BadSoil
+unfolding verdictOf unless
+bad-soil card soil row e g s = rw (g, s)
 
 -- what the call gives by the verdict of the reading r
 module _ (card : Card) (soil : List ℤ) (row : List ℕ) (e : Entry) {r : Reading} (er : r ≡ readingOf e) {v : Verdict} (is : v ≡ verdictOf card soil row (Entry.Reading r)) where
@@ -35,10 +49,7 @@ module _ (card : Card) (soil : List ℤ) (row : List ℕ) (e : Entry) {r : Readi
   verdict = sym (verdict-as card soil row e) ∙ ap (λ (x : Reading). verdictOf card soil row (Entry.Reading x)) (sym er) ∙ sym is
 
   refused : {why : Refusal} → v ≡ Bad why → StepGives card soil row e (Refused why) row
-  unfolding answerOf newRow finalOf judged
-  refused {why} f =
-      let h : verdictOf card soil row e ≡ Bad why = verdict ∙ f in
-      record { answer-is = rw h; number-is = rw h; amounts-are = rw h; row-is = rw h }
+  refused f = stays card soil row e (verdict ∙ f)
 
   passing : {d : Depth} → v ≡ Fine d → Passed card soil row e d
   passing {d} f = passed card soil row e d (verdict ∙ f)
@@ -87,6 +98,22 @@ module _ (card : Card) (soil : List ℤ) (row : List ℕ) (e : Entry) {r : Readi
         given true a = refl
         given false a = refl
 
+card-ok-requires : tie.Need-card-ok-requires
+card-ok-requires c κs = search needs
+
+returns : tie.Need-returns
+returns c =
+    let a = c .before .before .before .args in
+    stays (a .card) (a .soil .now) (a .row .now) (a .e) (verdict-card (a .card) (a .soil .now) (a .row .now) (a .e) (sym (c .before .card-ok .ensures) ∙ not-true _ (c .if1 .taken)))
+
+soil-ok-requires : tie.Need-soil-ok-requires
+soil-ok-requires c κs = search needs
+
+returns-2 : tie.Need-returns-2
+returns-2 c =
+    let a = c .before .before .before .before .before .args in
+    stays (a .card) (a .soil .now) (a .row .now) (a .e) (bad-soil (a .card) (a .soil .now) (a .row .now) (a .e) (sym (c .before .before .before .card-ok .ensures) ∙ not-false _ (c .before .before .if1 .left)) (sym (c .before .soil-ok .ensures) ∙ not-true _ (c .if2 .taken)))
+
 reading-of-requires : tie.Need-reading-of-requires
 reading-of-requires c κs = search needs
 
@@ -99,8 +126,11 @@ number-at-requires c κs = search needs
 number-at-requires-2 : tie.Need-number-at-requires-2
 number-at-requires-2 c κs = search needs
 
+shared-slice-copy-out-t23 : tie.Need-shared-slice-copy-out-t23
+shared-slice-copy-out-t23 c = let h = soil-in _ (sym (c .before .before .before .before .before .before .before .before .soil-ok .ensures) ∙ not-false _ (c .before .before .before .before .before .before .before .if2 .left)) .long in omega arith
+
 judge-requires : tie.Need-judge-requires
-judge-requires c κs = search needs
+judge-requires c κs = rw (toZ-ofZ (sfits-of (c .t23 .given))) (soil-in _ (sym (c .before .before .before .before .before .before .before .before .before .soil-ok .ensures) ∙ not-false _ (c .before .before .before .before .before .before .before .before .if2 .left)) .top)
 
 enum-known-verdict : tie.Need-enum-known-verdict
 enum-known-verdict c = search needs
@@ -109,53 +139,54 @@ enum-known-verdict-2 : tie.Need-enum-known-verdict-2
 enum-known-verdict-2 c = search needs
 
 soil-of-requires : tie.Need-soil-of-requires
-unfolding lifeOf nextOf
-soil-of-requires c κs =
-    let a = c .before .before .before .before .before .before .before .before .before .before .before .before .args in
-    passing (a .card) (a .soil .now) (a .row .now) (a .e) (c .before .before .before .before .before .before .before .before .before .before .reading-of .ensures) (verdict-of (a .card) (a .soil .now) (a .row .now) (Entry.Reading (c .before .before .before .before .before .before .before .before .before .before .reading-of .result)) _ _ _ _ (c .before .before .before .before .before .before .before .before .row-ok .ensures) (c .before .before .before .before .before .before .number-at .ensures) (c .before .before .before .before .number-at2 .ensures) (c .before .before .before .judge .ensures)) (c .before .verdict2 .given .1) .soil-ok
+soil-of-requires c κs = sym (c .before .before .before .before .before .before .before .before .before .before .before .before .before .soil-ok .ensures) ∙ not-false _ (c .before .before .before .before .before .before .before .before .before .before .before .before .if2 .left)
 
 accept-requires : tie.Need-accept-requires
 unfolding lifeOf nextOf
 accept-requires c κs =
-    let a = c .before .before .before .before .before .before .before .before .before .before .before .before .before .before .args in
+    let a = c .before .before .before .before .before .before .before .before .before .before .before .before .before .before .before .before .before .before .before .args in
     let f = c .before .before .before .verdict2 .given .1 in (
-      ranged (a .card) (a .soil .now) (a .row .now) (a .e) (c .before .before .before .before .before .before .before .before .before .before .before .before .reading-of .ensures) (verdict-of (a .card) (a .soil .now) (a .row .now) (Entry.Reading (c .before .before .before .before .before .before .before .before .before .before .before .before .reading-of .result)) _ _ _ _ (c .before .before .before .before .before .before .before .before .before .before .row-ok .ensures) (c .before .before .before .before .before .before .before .before .number-at .ensures) (c .before .before .before .before .before .before .number-at2 .ensures) (c .before .before .before .before .before .judge .ensures)) f (c .before .soil-of .ensures),
-      passing (a .card) (a .soil .now) (a .row .now) (a .e) (c .before .before .before .before .before .before .before .before .before .before .before .before .reading-of .ensures) (verdict-of (a .card) (a .soil .now) (a .row .now) (Entry.Reading (c .before .before .before .before .before .before .before .before .before .before .before .before .reading-of .result)) _ _ _ _ (c .before .before .before .before .before .before .before .before .before .before .row-ok .ensures) (c .before .before .before .before .before .before .before .before .number-at .ensures) (c .before .before .before .before .before .before .number-at2 .ensures) (c .before .before .before .before .before .judge .ensures)) f .row-ok,
+      ranged (a .card) (a .soil .now) (a .row .now) (a .e) (c .before .before .before .before .before .before .before .before .before .before .before .before .before .reading-of .ensures) (verdict-of (a .card) (a .soil .now) (a .row .now) (Entry.Reading (c .before .before .before .before .before .before .before .before .before .before .before .before .before .reading-of .result)) _ _ _ _ (sym (c .before .before .before .before .before .before .before .before .before .before .before .before .before .before .before .before .before .card-ok .ensures) ∙ not-false _ (c .before .before .before .before .before .before .before .before .before .before .before .before .before .before .before .before .if1 .left)) (sym (c .before .before .before .before .before .before .before .before .before .before .before .before .before .before .before .soil-ok .ensures) ∙ not-false _ (c .before .before .before .before .before .before .before .before .before .before .before .before .before .before .if2 .left)) (c .before .before .before .before .before .before .before .before .before .before .before .row-ok .ensures) (c .before .before .before .before .before .before .before .before .before .number-at .ensures) (c .before .before .before .before .before .before .before .number-at2 .ensures) (rw (toZ-ofZ (sfits-of (c .before .before .before .before .before .before .t23 .given))) at (c .before .before .before .before .before .judge .ensures))) f (c .before .soil-of .ensures),
+      passing (a .card) (a .soil .now) (a .row .now) (a .e) (c .before .before .before .before .before .before .before .before .before .before .before .before .before .reading-of .ensures) (verdict-of (a .card) (a .soil .now) (a .row .now) (Entry.Reading (c .before .before .before .before .before .before .before .before .before .before .before .before .before .reading-of .result)) _ _ _ _ (sym (c .before .before .before .before .before .before .before .before .before .before .before .before .before .before .before .before .before .card-ok .ensures) ∙ not-false _ (c .before .before .before .before .before .before .before .before .before .before .before .before .before .before .before .before .if1 .left)) (sym (c .before .before .before .before .before .before .before .before .before .before .before .before .before .before .before .soil-ok .ensures) ∙ not-false _ (c .before .before .before .before .before .before .before .before .before .before .before .before .before .before .if2 .left)) (c .before .before .before .before .before .before .before .before .before .before .before .row-ok .ensures) (c .before .before .before .before .before .before .before .before .before .number-at .ensures) (c .before .before .before .before .before .before .before .number-at2 .ensures) (rw (toZ-ofZ (sfits-of (c .before .before .before .before .before .before .t23 .given))) at (c .before .before .before .before .before .judge .ensures))) f .row-ok,
     )
 
 same-length : tie.Need-same-length
 same-length c = search needs
 
-returns : tie.Need-returns
+returns-3 : tie.Need-returns-3
 unfolding lifeOf nextOf
-returns c =
-    let a = c .before .before .before .before .before .before .before .before .before .before .before .before .args in
-    refused (a .card) (a .soil .now) (a .row .now) (a .e) (c .before .before .before .before .before .before .before .before .before .before .reading-of .ensures) (verdict-of (a .card) (a .soil .now) (a .row .now) (Entry.Reading (c .before .before .before .before .before .before .before .before .before .before .reading-of .result)) _ _ _ _ (c .before .before .before .before .before .before .before .before .row-ok .ensures) (c .before .before .before .before .before .before .number-at .ensures) (c .before .before .before .before .number-at2 .ensures) (c .before .before .before .judge .ensures)) (c .before .verdict .given .1)
+returns-3 c =
+    let a = c .before .before .before .before .before .before .before .before .before .before .before .before .before .before .before .before .before .args in
+    refused (a .card) (a .soil .now) (a .row .now) (a .e) (c .before .before .before .before .before .before .before .before .before .before .before .reading-of .ensures) (verdict-of (a .card) (a .soil .now) (a .row .now) (Entry.Reading (c .before .before .before .before .before .before .before .before .before .before .before .reading-of .result)) _ _ _ _ (sym (c .before .before .before .before .before .before .before .before .before .before .before .before .before .before .before .card-ok .ensures) ∙ not-false _ (c .before .before .before .before .before .before .before .before .before .before .before .before .before .before .if1 .left)) (sym (c .before .before .before .before .before .before .before .before .before .before .before .before .before .soil-ok .ensures) ∙ not-false _ (c .before .before .before .before .before .before .before .before .before .before .before .before .if2 .left)) (c .before .before .before .before .before .before .before .before .before .row-ok .ensures) (c .before .before .before .before .before .before .before .number-at .ensures) (c .before .before .before .before .before .number-at2 .ensures) (rw (toZ-ofZ (sfits-of (c .before .before .before .before .t23 .given))) at (c .before .before .before .judge .ensures))) (c .before .verdict .given .1)
 
 same-length-2 : tie.Need-same-length-2
 same-length-2 c = search needs
 
-returns-2 : tie.Need-returns-2
+returns-4 : tie.Need-returns-4
 unfolding lifeOf nextOf
-returns-2 c =
-    let a = c .before .before .before .before .before .before .before .before .before .before .before .before .before .before .before .before .before .args in
-    let t = c .before .before .accept in
-    accepted (a .card) (a .soil .now) (a .row .now) (a .e) (c .before .before .before .before .before .before .before .before .before .before .before .before .before .before .before .reading-of .ensures) (verdict-of (a .card) (a .soil .now) (a .row .now) (Entry.Reading (c .before .before .before .before .before .before .before .before .before .before .before .before .before .before .before .reading-of .result)) _ _ _ _ (c .before .before .before .before .before .before .before .before .before .before .before .before .before .row-ok .ensures) (c .before .before .before .before .before .before .before .before .before .before .before .number-at .ensures) (c .before .before .before .before .before .before .before .before .before .number-at2 .ensures) (c .before .before .before .before .before .before .before .before .judge .ensures)) (c .before .before .before .before .before .before .verdict2 .given .1) (c .before .before .before .before .soil-of .ensures) (t .ensures)
+returns-4 c =
+    let a = c .before .before .before .before .before .before .before .before .before .before .before .before .before .before .before .before .before .before .before .before .before .before .args in
+    accepted (a .card) (a .soil .now) (a .row .now) (a .e) (c .before .before .before .before .before .before .before .before .before .before .before .before .before .before .before .before .reading-of .ensures) (verdict-of (a .card) (a .soil .now) (a .row .now) (Entry.Reading (c .before .before .before .before .before .before .before .before .before .before .before .before .before .before .before .before .reading-of .result)) _ _ _ _ (sym (c .before .before .before .before .before .before .before .before .before .before .before .before .before .before .before .before .before .before .before .before .card-ok .ensures) ∙ not-false _ (c .before .before .before .before .before .before .before .before .before .before .before .before .before .before .before .before .before .before .before .if1 .left)) (sym (c .before .before .before .before .before .before .before .before .before .before .before .before .before .before .before .before .before .before .soil-ok .ensures) ∙ not-false _ (c .before .before .before .before .before .before .before .before .before .before .before .before .before .before .before .before .before .if2 .left)) (c .before .before .before .before .before .before .before .before .before .before .before .before .before .before .row-ok .ensures) (c .before .before .before .before .before .before .before .before .before .before .before .before .number-at .ensures) (c .before .before .before .before .before .before .before .before .before .before .number-at2 .ensures) (rw (toZ-ofZ (sfits-of (c .before .before .before .before .before .before .before .before .before .t23 .given))) at (c .before .before .before .before .before .before .before .before .judge .ensures))) (c .before .before .before .before .before .before .verdict2 .given .1) (c .before .before .before .before .soil-of .ensures) (c .before .before .accept .ensures)
 
 pub step-row-spec : {M : Type 1} → statement M
 step-row-spec =
     tie.close
     (tie.spec
+    card-ok-requires
+    returns
+    soil-ok-requires
+    returns-2
     reading-of-requires
     row-ok-requires
     number-at-requires
     number-at-requires-2
+    shared-slice-copy-out-t23
     judge-requires
     enum-known-verdict
     enum-known-verdict-2
     soil-of-requires
     accept-requires
     same-length
-    returns
+    returns-3
     same-length-2
-    returns-2)
+    returns-4)
