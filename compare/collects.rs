@@ -12,7 +12,7 @@ use second::made::site::Site;
 use second::numbers::{Card, row_in_range};
 use second::sums::{MOST_SUMMED, Sums, collect};
 
-/// What collections must come to: given, by what the row held, or refused.
+/// What collections must come to, their cards aside: given, by what the row held, or refused.
 pub const COLLECTIONS: &[&str] = &[
     "0 nothing held",
     "0 runoff held",
@@ -20,15 +20,6 @@ pub const COLLECTIONS: &[&str] = &[
     "0 both held",
     "0 a sum of 10^18 held",
     "0 beside a row out of range",
-    "1 cells",
-    "1 delays",
-    "1 depth 0",
-    "1 depth too large",
-    "1 depths equal",
-    "1 depths falling",
-    "1 unused place",
-    "1 share below 5",
-    "1 share above 20",
     "2 rows short",
     "2 rows long",
     "2 rows without sums",
@@ -39,8 +30,6 @@ pub const COLLECTIONS: &[&str] = &[
     "5 slot above M",
     "5 runoff above 10^18",
     "5 drainage above 10^18",
-    "255 card",
-    "255 card without its share",
     "255 sums",
 ];
 

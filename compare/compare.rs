@@ -37,7 +37,7 @@ use second::made::dice::Dice;
 use std::process::ExitCode;
 use tally::Tally;
 
-/// All that must be met, by heading.
+/// All that must be met, by heading; a heading may have several lists, one after the other.
 const MUST: &[(&str, &[&str])] = &[
     ("branches", branches::BRANCHES),
     ("storm runoff by share", branches::STORMS),
@@ -45,16 +45,22 @@ const MUST: &[(&str, &[&str])] = &[
     ("every share", shares::KINDS),
     ("every delay", steps::DELAYS),
     ("every full queue", voids::QUEUES),
+    ("refused for", refusals::CARDS),
     ("refused for", refusals::TURNS),
     ("refused for its figures", refusals::FIGURES),
     ("voids", voids::VOIDS),
+    ("voids refused for", refusals::CARDS),
     ("voids refused for", refusals::TURNS),
+    ("clearings", refusals::CARDS),
     ("clearings", refusals::CLEARINGS),
     ("added to the sums", sums::ADDED),
     ("sums at an edge", sums::EDGES),
     ("over full sums", sums::BEFORE),
+    ("collections", refusals::CARDS),
     ("collections", collects::COLLECTIONS),
+    ("moves over", refusals::CARDS),
     ("moves over", moves::MOVES),
+    ("moves back", refusals::CARDS),
     ("moves back", moves::MOVES),
     ("moves back, by the sums", moves::SUMS),
     ("sites moved", moves::SITES),

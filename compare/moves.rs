@@ -12,19 +12,10 @@ use second::made::site::Site;
 use second::numbers::{Card, old_row_in_range, row_in_range, slot_limit};
 use second::sums::{Sums, grow, shrink};
 
-/// What moves must come to, whichever way.
+/// What moves must come to, whichever way, their cards aside.
 pub const MOVES: &[&str] = &[
     "0 moved",
     "0 moved, the most cells",
-    "1 cells",
-    "1 delays",
-    "1 depth 0",
-    "1 depth too large",
-    "1 depths equal",
-    "1 depths falling",
-    "1 unused place",
-    "1 share below 5",
-    "1 share above 20",
     "2 taken rows short",
     "2 taken rows long",
     "2 written rows short",
@@ -37,8 +28,6 @@ pub const MOVES: &[&str] = &[
     "5 first row",
     "5 last row",
     "5 row between",
-    "255 card",
-    "255 card without its share",
 ];
 
 /// What moves back must come to beside that, by the sums.

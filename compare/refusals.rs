@@ -7,8 +7,8 @@ use crate::waterbook::{OLD_ROW, ROW, SHARE_AT, SOIL};
 use second::numbers::{Card, Reading, Turn, slot_limit, turn_in_range};
 use second::sums::{MOST_SUMMED, Sums};
 
-/// What must be refused of steps and of voids alike: slices, cards, plots, rows and turns.
-pub const TURNS: &[&str] = &[
+/// What must be refused of its card in every call that looks at ranges.
+pub const CARDS: &[&str] = &[
     "1 cells",
     "1 delays",
     "1 depth 0",
@@ -18,6 +18,12 @@ pub const TURNS: &[&str] = &[
     "1 unused place",
     "1 share below 5",
     "1 share above 20",
+    "255 card",
+    "255 card without its share",
+];
+
+/// What must be refused of steps and of voids alike, beside cards: slices, plots, rows and turns.
+pub const TURNS: &[&str] = &[
     "2 soil short",
     "2 soil long",
     "2 rows short",
@@ -46,31 +52,18 @@ pub const TURNS: &[&str] = &[
     "7 life higher and count not 0",
     "8 life",
     "8 count",
-    "255 card",
-    "255 card without its share",
     "255 reading or void",
     "255 amounts",
 ];
 
-/// What clearings must come to: done on each kind of share, or refused.
+/// What clearings must come to beside that: done on each kind of share, or refused.
 pub const CLEARINGS: &[&str] = &[
     "0 share 5",
     "0 share between",
     "0 share 20",
-    "1 cells",
-    "1 delays",
-    "1 depth 0",
-    "1 depth too large",
-    "1 depths equal",
-    "1 depths falling",
-    "1 unused place",
-    "1 share below 5",
-    "1 share above 20",
     "2 rows short",
     "2 rows long",
     "2 rows without sums",
-    "255 card",
-    "255 card without its share",
 ];
 
 /// What must be refused of steps alone: a reading's figures, its head, and what it would add to the sums.

@@ -39,8 +39,12 @@ impl Tally {
             let words: Vec<String> = met.map(|(key, n)| format!("{}: {n}", key.1)).collect();
             println!("numbers of {}: {}", call.0, words.join(", "));
         }
+        let mut last = "";
         for (heading, names) in crate::MUST {
-            println!("{heading}:");
+            if *heading != last {
+                println!("{heading}:");
+            }
+            last = heading;
             for name in *names {
                 println!("  {:>9}  {name}", self.count(heading, name));
             }
