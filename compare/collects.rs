@@ -12,7 +12,7 @@ use second::made::site::Site;
 use second::numbers::{Card, row_in_range};
 use second::sums::{MOST_SUMMED, Sums, collect};
 
-/// What collections must come to, their cards aside: given, by what the row held, or refused.
+/// What collections must come to, their cards and rows aside: given, by what the row held, or refused.
 pub const COLLECTIONS: &[&str] = &[
     "0 nothing held",
     "0 runoff held",
@@ -24,12 +24,6 @@ pub const COLLECTIONS: &[&str] = &[
     "2 rows long",
     "2 rows without sums",
     "3 cell",
-    "5 life",
-    "5 next count",
-    "5 slot above its limit",
-    "5 slot above M",
-    "5 runoff above 10^18",
-    "5 drainage above 10^18",
     "255 sums",
 ];
 

@@ -22,7 +22,17 @@ pub const CARDS: &[&str] = &[
     "255 card without its share",
 ];
 
-/// What must be refused of steps and of voids alike, beside cards: slices, plots, rows and turns.
+/// What must be refused of a row with sums.
+pub const ROWS: &[&str] = &[
+    "5 life",
+    "5 next count",
+    "5 slot above its limit",
+    "5 slot above M",
+    "5 runoff above 10^18",
+    "5 drainage above 10^18",
+];
+
+/// What must be refused of steps and of voids alike, beside cards and rows: slices, plots and turns.
 pub const TURNS: &[&str] = &[
     "2 soil short",
     "2 soil long",
@@ -40,12 +50,6 @@ pub const TURNS: &[&str] = &[
     "4 leak high",
     "4 cn low",
     "4 cn high",
-    "5 life",
-    "5 next count",
-    "5 slot above its limit",
-    "5 slot above M",
-    "5 runoff above 10^18",
-    "5 drainage above 10^18",
     "6 life lower",
     "6 count lower",
     "7 count higher",
