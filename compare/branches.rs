@@ -3,7 +3,7 @@
 use crate::heads;
 use crate::tally::Tally;
 use second::head::depth;
-use second::numbers::{Amounts, Card, Reading, slot_limit};
+use second::numbers::{Amounts, Card, MOST, MOST_RAIN, Reading, slot_limit};
 use second::rules::{curve_number, delay, storm_runoff};
 
 /// The branches of the eleven steps that must be met.
@@ -52,7 +52,7 @@ pub const BRANCHES: &[&str] = &[
     "9 drain, less than 1 µm",
     "10 deposit, into a slot",
     "10 deposit, joins water in a slot",
-    "10 deposit, fills a slot to its limit",
+    "10 deposit, fills a slot as far as it can",
     "10 deposit, nothing",
     "10 direct",
     "11 recharge above 0",
@@ -233,8 +233,9 @@ fn deposit(met: &Met, k: usize) -> Option<&'static str> {
         (0, _) if direct > 0 => Some("10 direct"),
         (0, _) => None,
         (_, 0) => Some("10 deposit, nothing"),
-        _ if met.after[1 + k] == slot_limit(k as u32, met.card.delays) => {
-            Some("10 deposit, fills a slot to its limit")
+        // The most that stood in the slot above by the row's range, and the most that a day brings.
+        _ if met.after[1 + k] + MOST - MOST_RAIN == slot_limit(k as u32, met.card.delays) => {
+            Some("10 deposit, fills a slot as far as it can")
         }
         (_, stored) if i64::from(met.after[1 + k]) > stored => {
             Some("10 deposit, joins water in a slot")
@@ -259,7 +260,7 @@ pub fn first_loss(c: i64, share: i64) -> i64 {
 /// Storm runoff exactly at an edge: the first rain that has any, for a curve number and a share, or one past the range.
 pub fn rain_at_the_edge(c: i64, share: i64) -> i64 {
     let mut rain = first_loss(c, share);
-    while storm_runoff(c, share, rain) == 0 && rain < 1_000_000 {
+    while storm_runoff(c, share, rain) == 0 && rain < i64::from(MOST_RAIN) {
         rain += 1;
     }
     rain

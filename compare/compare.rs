@@ -16,6 +16,7 @@ mod numbers;
 #[path = "../node/outbox.rs"]
 mod outbox;
 mod outboxes;
+mod rains;
 mod refusals;
 mod runs;
 mod shares;
@@ -45,6 +46,7 @@ const MUST: &[(&str, &[&str])] = &[
     ("every share", shares::KINDS),
     ("every delay", steps::DELAYS),
     ("every full queue", voids::QUEUES),
+    ("every edge of rain", rains::RAINS),
     ("refused for", refusals::CARDS),
     ("refused for", refusals::ROWS),
     ("refused for", refusals::TURNS),
@@ -126,6 +128,7 @@ fn round(asked: &Asked, round: u64, tally: &mut Tally) -> Result<(), String> {
         shares::on_cards(tally)?;
         steps::delays(tally)?;
         voids::queues(tally)?;
+        rains::at_edges(tally)?;
         sums::at_edges(tally)?;
         sums::before_15(tally)?;
         moves::sites(tally)?;

@@ -4,7 +4,7 @@ use crate::waterbook::{self, ROW, SOIL};
 use second::made::dice::Dice;
 use second::made::readings::{card_bytes, reading_bytes};
 use second::made::site::Site;
-use second::numbers::{Card, MOST, Reading};
+use second::numbers::{Card, MOST_RAIN, Reading};
 use second::sums::{MOST_SUMMED, Sums};
 
 /// Readings of a course, and how often they are gone through for one time.
@@ -142,7 +142,8 @@ pub fn refused_with(number: u32, delays: u32) -> Course {
             8 => reading.amc = 0,
             9 => reading.head = 0x7fc0_0000,
             10 => reading.head = 0x7149_f2ca,
-            15 => reading.rain = MOST,
+            15 => reading.rain = MOST_RAIN,
+            17 => reading.rain = MOST_RAIN + 1,
             _ => {}
         }
     }

@@ -52,7 +52,7 @@ fn negative(numbers: &[i64], recharge: usize) -> bool {
 fn answer_of(cell: u32, number: u32, amounts: &[i64]) -> Line {
     if amounts.len() != AMOUNTS {
         Err("numbers of another count")
-    } else if number > 10 && number != 15 {
+    } else if number > 10 && number != 15 && number != 17 {
         Err("number of no answer")
     } else if number != 0 && amounts.iter().any(|amount| *amount != 0) {
         Err("refused with an amount")
@@ -153,7 +153,7 @@ fn written(
 /// Write an answer's line on both sides.
 pub fn write_answer(dice: &mut Dice, tally: &mut Tally) -> Result<(), String> {
     let (cell, some) = (wild::any(dice), wild::any(dice));
-    let number = dice.pick(&[0, 0, 0, 1 + some % 10, 1 + some % 10, 11 + some % 6, 15, some]);
+    let number = dice.pick(&[0, 0, 0, 1 + some % 10, 1 + some % 10, 11 + some % 8, 15, 17, some]);
     let fair = fair_amounts(dice);
     let mut amounts = ten(dice, fair, ANSWER_RECHARGE);
     if number != 0 && !dice.once_in(4) {

@@ -97,7 +97,7 @@ fn race_refusals() {
     );
     println!("| number | proved | second | ratio | spread of the ratio | over slices |");
     println!("|---|---|---|---|---|---|");
-    for number in (1..=10).chain([15]) {
+    for number in (1..=10).chain([15, 17]) {
         let course = refused_with(number, 5);
         let pairs = step_pairs(LIBRARY, &course);
         let nanos = |seconds: f64| seconds * 1e9 / (READINGS * TIMES) as f64;

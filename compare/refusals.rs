@@ -80,6 +80,7 @@ pub const FIGURES: &[&str] = &[
     "8 etmin above pet",
     "8 amc 0",
     "8 amc above 3",
+    "17 rain",
     "9 head",
     "10 head",
     "15 runoff",
@@ -120,7 +121,7 @@ pub fn refused(
     r: &Reading,
     tally: &mut Tally,
 ) {
-    if number >= 9 {
+    if matches!(number, 9 | 10 | 15) {
         tally.meet("heads met by the head's check", heads::class(r.head));
     }
     if number < 8 || (number == 8 && !turn_in_range(&r.turn())) {
@@ -241,6 +242,7 @@ fn figure_fault(number: u32, r: &Reading) -> &'static str {
     match figures.iter().find(|(figure, most, _)| figure > most) {
         _ if number == 9 => "9 head",
         _ if number == 10 => "10 head",
+        _ if number == 17 => "17 rain",
         Some((_, _, name)) => name,
         None if r.amc == 0 => "8 amc 0",
         None => "8 etmin above pet",

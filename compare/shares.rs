@@ -9,7 +9,7 @@ use crate::texts::{card_of_text, written_card};
 use crate::waterbook::{CARD, CARD_TEXT, CELLS, GOT, LONGEST, ROW, SOIL};
 use second::head::DRY;
 use second::made::damage::SHARES;
-use second::numbers::{Card, Entry, MOST, Reading, USUAL_SHARE, Void};
+use second::numbers::{Card, Entry, MOST_RAIN, Reading, USUAL_SHARE, Void};
 use second::text::{read_card, write_card};
 
 /// The kinds of shares that the sweep must meet.
@@ -149,8 +149,8 @@ fn storms(
     let mut runoffs = Vec::new();
     for cell in 0..100 {
         let edge = rain_at_the_edge(i64::from(cell) + 1, share.clamp(5, 20).into());
-        let edge = edge.min(MOST.into()) as u32;
-        for (count, rain) in (0..).zip([edge.saturating_sub(1), edge, MOST]) {
+        let edge = edge.min(MOST_RAIN.into()) as u32;
+        for (count, rain) in (0..).zip([edge.saturating_sub(1), edge, MOST_RAIN]) {
             let reading = Reading { cell, count, rain, amc: 2, head: DRY, ..Reading::default() };
             take(given, slices, &Entry::Reading(reading));
             let at =
@@ -176,8 +176,8 @@ pub fn on_cards(tally: &mut Tally) -> Result<(), String> {
         let at = |what| format!("share {share}\n{what}");
         let (wanted, mut count) = (number_at(share), 0);
         if wanted == 0 {
-            // Of the most rain less runs off at each greater share, on the curve numbers from 5 to 99.
-            if (4..99).any(|cell| runoffs[cell] >= before[cell]) {
+            // Of the most rain less runs off at each greater share, on the curve numbers from 8 to 99.
+            if (7..99).any(|cell| runoffs[cell] >= before[cell]) {
                 return Err(at(format!("runoffs {runoffs:?}\nafter   {before:?}")));
             }
             (before, count) = (runoffs, 3);

@@ -11,16 +11,16 @@ use second::made::dice::Dice;
 use second::made::readings::next_reading;
 use second::made::site::Site;
 use second::made::wet::metres_down;
-use second::numbers::{Card, Entry, MOST, Reading, USUAL_SHARE};
+use second::numbers::{Card, Entry, MOST_RAIN, Reading, USUAL_SHARE};
 
 /// What the sweep over every curve number must meet.
 pub const CURVES: &[&str] = &[
     "dry, seen in the runoff",
-    "dry, below 5 and so without runoff",
+    "dry, below 8 and so without runoff",
     "normal, seen in the runoff",
-    "normal, below 5 and so without runoff",
+    "normal, below 8 and so without runoff",
     "wet, seen in the runoff",
-    "wet, below 5 and so without runoff",
+    "wet, below 8 and so without runoff",
 ];
 
 /// A site with a cell for every curve number, a share and no delays.
@@ -37,7 +37,8 @@ pub fn curves(tally: &mut Tally) -> Result<(), String> {
     for amc in 1..=3 {
         for cell in 0..100 {
             let (count, cn) = (amc - 1, cell + 1);
-            let reading = Reading { cell, count, rain: MOST, amc, head: DRY, ..Reading::default() };
+            let storm = Reading { rain: MOST_RAIN, head: DRY, ..Reading::default() };
+            let reading = Reading { cell, count, amc, ..storm };
             take(&mut given, &mut slices, &Entry::Reading(reading));
             let at = |what| format!("step, most rain at cn {cn}, amc {amc}\n{what}");
             let number = both(&mut given, &mut slices, tally).map_err(at)?;

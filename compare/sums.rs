@@ -8,7 +8,7 @@ use crate::waterbook::{AMOUNTS, OLD_ROW, ROW, SOIL};
 use crate::{collects, moves};
 use second::head::{DRY, INACTIVE, TEN_KILOMETRES};
 use second::made::site::Site;
-use second::numbers::{Amounts, Card, Entry, MOST, Reading, Void};
+use second::numbers::{Amounts, Card, Entry, MOST, MOST_RAIN, Reading, Void};
 use second::sums::{MOST_SUMMED, Sums};
 
 /// What accepted steps must have done to the sums.
@@ -89,14 +89,14 @@ fn days() -> [Day; 4] {
     let plot = [10_000_000, 1_500_000, 200, 100_000, 80];
     let storm = Reading { cell: 1, rain: 50_800, amc: 2, head: DRY, ..Reading::default() };
     let flood = Reading { head: 10.5f32.to_bits(), ..storm };
-    let deluge = Reading { rain: MOST, irrig: MOST, head: TEN_KILOMETRES, ..storm };
+    let deluge = Reading { rain: MOST_RAIN, irrig: MOST, head: TEN_KILOMETRES, ..storm };
     let sea = [-10_000_000_000, 1, 1, 1_000_000, 1];
     let adds = |runoff, drainage| Sums { runoff, drainage };
     [
         Day { reading: Reading { rain: 0, ..storm }, plot, adds: adds(0, 0) },
         Day { reading: storm, plot, adds: adds(14_287, 0) },
         Day { reading: flood, plot, adds: adds(50_800, 50_000) },
-        Day { reading: deluge, plot: sea, adds: adds(2_000_000, 20_000_000_000) },
+        Day { reading: deluge, plot: sea, adds: adds(1_600_000, 20_000_000_000) },
     ]
 }
 
@@ -204,15 +204,16 @@ fn wanted(
 }
 
 /// What must be met over full sums, the last check first.
-pub const BEFORE: &[&str] = &["15", "10", "9", "8", "7", "6", "5", "4", "3", "2", "1", "255"];
+pub const BEFORE: &[&str] = &["15", "10", "9", "17", "8", "7", "6", "5", "4", "3", "2", "1", "255"];
 
 /// One more fault in what is given.
 type Fault = fn(&mut Given);
 
 /// Faults from the last check to the first, each with its number.
-const FAULTS: [(u32, Fault); 11] = [
+const FAULTS: [(u32, Fault); 12] = [
     (10, |given| given.entry[9] = INACTIVE),
     (9, |given| given.entry[9] = TEN_KILOMETRES + 1),
+    (17, |given| given.entry[3] = MOST_RAIN + 1),
     (8, |given| given.entry[8] = 4),
     (7, |given| given.entry[2] = 1),
     (6, |given| given.rows[ROW] = 1),

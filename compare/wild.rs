@@ -135,7 +135,8 @@ fn edge_of(c: i64, share: u32) -> i64 {
 
 /// A field of a reading put at an edge or beyond; the soil's curve number and the card's share set the rain's edges.
 pub fn reading(dice: &mut Dice, reading: &mut [u32], cn: i64, share: u32) {
-    let (edge, any) = (dice.pick(&[999_999, 1_000_000, 1_000_001, u32::MAX]), any(dice));
+    let edges = [600_000, 600_001, 999_999, 1_000_000, 1_000_001, u32::MAX];
+    let (edge, any) = (dice.pick(&edges), any(dice));
     match dice.below(13) {
         0..=2 => turn(dice, &mut reading[..3]),
         3..=7 => reading[dice.within(3, 7) as usize] = edge,

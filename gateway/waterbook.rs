@@ -4,7 +4,8 @@
 //! array of its own width, a refused call an `Err` with its [`Refusal`]. [`raw`] has the same calls over slices of any
 //! width, with the number as it comes. The library keeps nothing between calls: rows and sheet are the host's, and
 //! STORING.md says when to store them, and when to [`collect`] the sums that rows keep. The header also says what a host
-//! of 3.x has to change for 4.0.0: a row has 36 numbers in place of 32, and [`grow`] moves a site's rows over.
+//! of 4.x has to change for 5.0.0: rain above 600,000 is refused, as [`Refusal::JammedBucket`]; and one of 3.x before
+//! that: a row has 36 numbers in place of 32, and [`grow`] moves a site's rows over.
 //!
 //! rust/ is a package of this file: a firm's own package names it by path. Plain `rustc --edition 2024` takes this file
 //! as a module and finds the library by `-L native=target/staticlib`, after `rt staticlib gateway`; hosts/host.rs is such
@@ -50,7 +51,7 @@
 use core::fmt;
 
 /// The version of the library; include/waterbook.h says what raises which part.
-pub const VERSION_MAJOR: u32 = 4;
+pub const VERSION_MAJOR: u32 = 5;
 pub const VERSION_MINOR: u32 = 0;
 pub const VERSION_PATCH: u32 = 0;
 /// The version as one number.
@@ -170,6 +171,8 @@ pub enum Refusal {
     SumFull = 15,
     /// A sum of the site is not 0: before a move back, every cell is to be collected.
     NotCollected = 16,
+    /// The reading's rain is above 600,000 µm, and no field is out of range: the gauge's bucket is jammed.
+    JammedBucket = 17,
 }
 
 impl Refusal {
@@ -189,6 +192,7 @@ impl Refusal {
         Refusal::Malformed,
         Refusal::SumFull,
         Refusal::NotCollected,
+        Refusal::JammedBucket,
     ];
 
     /// The library's number for it.
@@ -219,6 +223,7 @@ impl fmt::Display for Refusal {
             Refusal::Malformed => "the text is malformed, or cannot be written",
             Refusal::SumFull => "a sum of the cell would pass its limit: collect it first",
             Refusal::NotCollected => "a sum of the site is not collected",
+            Refusal::JammedBucket => "the rain is above 600 mm: the gauge's bucket is jammed",
         })
     }
 }

@@ -180,7 +180,7 @@ static void try_with_signed(int64_t *place, int64_t other, size_t wanted) {
 static void accepted_steps(void) {
     static const uint32_t heads[] = {0x410c0000, 0x41200000, 0x41280000, 0x411ffbe7, 0x461c4000, 0xc61c4000,
                                      0x80000001, 0xf149f2ca};
-    static const uint32_t rains[] = {0, 12953, 1000000}, shares[] = {5, 12, 20};
+    static const uint32_t rains[] = {0, 12953, 600000}, shares[] = {5, 12, 20};
     for (uint32_t delays = 0; delays <= 30; delays++) {
         give_delays(delays);
         for (size_t i = 0; i < 8 * 3 * 3 * 2 * 3; i++) {
@@ -269,6 +269,7 @@ static void step_cases(void) {
     refused_entries(given.reading);
     for (size_t i = 0; i < 6; i++)
         try_with(&given.reading[3 + i], wrong[i], WATERBOOK_BAD_READING);
+    try_with(&given.reading[3], 600001, WATERBOOK_JAMMED_BUCKET);
     try_with(&given.reading[9], 0x7fc00001, WATERBOOK_UNUSABLE_HEAD);
     try_with(&given.reading[9], 0x461c4001, WATERBOOK_UNUSABLE_HEAD);
     try_with(&given.reading[9], 0x7149f2ca, WATERBOOK_INACTIVE_HEAD);
@@ -462,10 +463,12 @@ static void write_answer_cases(void) {
     try_with_signed(&given.amounts[9], -1, WATERBOOK_MALFORMED);
     try_shorter(&given.amounts_len, WATERBOOK_NOT_THE_COUNT);
     memset(given.amounts, 0, sizeof given.amounts);
-    for (uint32_t refused = 0; refused <= WATERBOOK_NOT_COLLECTED; refused++)
+    for (uint32_t refused = 0; refused <= WATERBOOK_JAMMED_BUCKET + 1; refused++)
         try_with(&given.answered, refused,
-                 refused <= WATERBOOK_INACTIVE_HEAD || refused == WATERBOOK_SUM_FULL ? WATERBOOK_ACCEPTED
-                                                                                    : WATERBOOK_MALFORMED);
+                 refused <= WATERBOOK_INACTIVE_HEAD || refused == WATERBOOK_SUM_FULL ||
+                         refused == WATERBOOK_JAMMED_BUCKET
+                     ? WATERBOOK_ACCEPTED
+                     : WATERBOOK_MALFORMED);
 }
 
 static void write_sheet_cases(void) {
@@ -483,7 +486,7 @@ static void write_sheet_cases(void) {
 static void give_entries(void) {
     static const uint32_t heads[] = {0x410c0000, 0x41280000, 0xf149f2ca, 0x7149f2ca, 0x7fc00001};
     for (uint32_t i = 0; given.text_len + WATERBOOK_READING_TEXT <= WATERBOOK_LONGEST; i++) {
-        uint32_t numbers[WATERBOOK_READING] = {i % 260, 0, i / 260, 1000000, 1000000, 1000000, 1000000, 1000000,
+        uint32_t numbers[WATERBOOK_READING] = {i % 260, 0, i / 260, 600000, 1000000, 1000000, 1000000, 1000000,
                                                1 + i % 3, heads[i / 7 % 5]};
         size_t got[WATERBOOK_GOT];
         uint8_t *end = text + given.text_len;

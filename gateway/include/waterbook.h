@@ -42,7 +42,7 @@
  *    0  cell     which plot, from 0
  *    1  life     the battery's life, 0..65,535
  *    2  count    the reading's place in this life, 0..999,999
- *    3  rain     µm, 0..1,000,000
+ *    3  rain     µm, 0..1,000,000; above 600,000 the gauge's bucket is jammed
  *    4  irrig    irrigation in µm, 0..1,000,000
  *    5  septic   septic water in µm, 0..1,000,000
  *    6  etmin    least plant use in µm, 0..1,000,000, at most pet
@@ -110,6 +110,14 @@ extern "C" {
  * taken that was malformed before, or a room or stack stated below grows: build the host again. PATCH rises where none
  * of this is so, as for speed.
  *
+ * From 4.x to 5.0.0 rain above 600,000 is turned away, with a number of its own. What a host of 4.x has to change:
+ *   Know one number more: waterbook_step may return 17, for rain of 600,001..1,000,000, which it took before. The count
+ *   stays open as with 8: hold the reading back for a person, as with 8.
+ *   Where stored readings are stepped again, or an old journal is booked again, such a day gets 17 and the days after it
+ *   7. Give a void, or the day as it should have been, in its place: gateway/STORING.md says how.
+ * All else is as it was: cards, soil numbers, rows, amounts, sheets and texts, and every other answer. Rows that 4.x
+ * stored are in range as they are. The Rust side has changed likewise.
+ *
  * From 3.x to 4.0.0 a row got four numbers more, the two sums, at places 32 to 35. What a host of 3.x has to change:
  *   Move each site over once: lend waterbook_grow the stored rows, 32 x cells numbers, and a fresh slice of 36 x cells.
  *   Keep the old rows until it has returned 0 and the new ones are stored. Rows lent with 32 numbers a cell get 2 from
@@ -128,7 +136,7 @@ extern "C" {
  *   Give a card text 17 bytes more room, as WATERBOOK_CARD_TEXT does.
  * With 20 every answer is the same. A card text that was read before is read the same, with 20 at place 32, and a card
  * with 20 is written as before; a text with another share was malformed before. */
-#define WATERBOOK_VERSION_MAJOR 4
+#define WATERBOOK_VERSION_MAJOR 5
 #define WATERBOOK_VERSION_MINOR 0
 #define WATERBOOK_VERSION_PATCH 0
 #define WATERBOOK_VERSION \
@@ -167,6 +175,8 @@ enum waterbook_number {
     WATERBOOK_SUM_FULL = 15,
     /* A sum of the site is not 0: before a move back, every cell is to be collected. */
     WATERBOOK_NOT_COLLECTED = 16,
+    /* The reading's rain is above 600,000 µm, and no field is out of range: the gauge's bucket is jammed. */
+    WATERBOOK_JAMMED_BUCKET = 17,
     /* A card, reading, notice, amounts, sums, sheet or got slice has another count of numbers than its own; nothing is
      * changed. */
     WATERBOOK_NOT_THE_COUNT = 255
@@ -238,12 +248,13 @@ enum {
 /* The room in bytes that the book of a journal of so many bytes needs. */
 #define WATERBOOK_BOOK_ROOM(journal_len) (5 * (size_t)(journal_len) + 300)
 
-/* One reading of the site. Returns 0..10, 15 or 255: 255 is looked at first, then 1 to 10 in this order, last 15, and
- * the first that applies is returned. So a life or count out of range that is a gap as well gives 7.
+/* One reading of the site. Returns 0..10, 15, 17 or 255: 255 is looked at first, then 1 to 8 in this order, then 17, 9
+ * and 10, last 15, and the first that applies is returned. So a life or count out of range that is a gap as well gives
+ * 7, and rain above 1,000,000 gives 8.
  * Accepted (0): the row of the reading's cell is the row after the step, its runoff and its drain added to the sums, no
- * other number of rows changes, and amounts holds the ten amounts. Refused (1..10, 15): rows stays as it came and
- * amounts holds ten zeros.
- * A reading refused with 8, 9 or 10 does not use up its count: a corrected one may follow, or a void. Nor does one
+ * other number of rows changes, and amounts holds the ten amounts. Refused (1..10, 15, 17): rows stays as it came
+ * and amounts holds ten zeros.
+ * A reading refused with 8, 17, 9 or 10 does not use up its count: a corrected one may follow, or a void. Nor does one
  * refused with 15: once its cell is collected, it is accepted as it is. */
 uint32_t waterbook_step(const uint32_t *card, size_t card_len,
                         const int64_t *soil, size_t soil_len,
@@ -350,8 +361,8 @@ uint32_t waterbook_write_void(const uint32_t *notice, size_t notice_len,
 
 /* Writes the line that waterbook prints for an answer: the entry's cell, the number that the step returned and its
  * amounts. It goes to the start of buf, and no byte after it changes. Returns 0, 12 or 255. 12, with buf as it came:
- * buf is too short, or no step gives such an answer, since the number is neither 0..10 nor 15, or it is not 0 and an
- * amount is not 0 either, or an amount but recharge is negative. */
+ * buf is too short, or no step gives such an answer, since the number is neither 0..10 nor 15 nor 17, or it is not 0
+ * and an amount is not 0 either, or an amount but recharge is negative. */
 uint32_t waterbook_write_answer(uint32_t cell, uint32_t number,
                                 const int64_t *amounts, size_t amounts_len,
                                 uint8_t *buf, size_t buf_len,

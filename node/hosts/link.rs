@@ -32,7 +32,7 @@ const WRONG: [(Wrong, &str); 8] = [
 ];
 
 /// What must be met over all runs, each at least once.
-const MUST: [&str; 23] = [
+const MUST: [&str; 24] = [
     "readings accepted",
     "voids accepted",
     "voids accepted in place of a reading",
@@ -40,6 +40,7 @@ const MUST: [&str; 23] = [
     "refused with 6, of an earlier life",
     "refused with 7, sent before its turn",
     "refused with 8",
+    "refused with 17",
     "refused with 9",
     "refused with 10",
     "repeats heard by the gateway",

@@ -93,7 +93,7 @@ pub fn held(outbox: &Outbox) -> Vec<Entry> {
     places.map(|place| std::array::from_fn(|i| place[i])).collect()
 }
 
-/// A reading's figures: in range mostly, else such that the gateway answers 8, 9 or 10.
+/// A reading's figures: in range mostly, else such that the gateway answers 8, 17, 9 or 10.
 fn figures(dice: &mut Dice) -> [u32; 7] {
     let head = dice.pick(&[8.75f32, 7.5, 9.99, 10.5]).to_bits();
     let mut figures = [dice.below(60_000) as u32, 0, 500, 2_000, 5_000, 2, head];
@@ -102,6 +102,7 @@ fn figures(dice: &mut Dice) -> [u32; 7] {
         1 => figures[3] = 5_001,
         2 => figures[6] = f32::NAN.to_bits(),
         3 => figures[6] = 0x7149_f2ca,
+        4 => figures[0] = 940_000,
         _ => {}
     }
     figures
@@ -305,6 +306,7 @@ impl World {
             Err(Refusal::Old) => "refused with 6, of an earlier life",
             Err(Refusal::Gap) if self.frames => "refused with 7, sent before its turn",
             Err(Refusal::BadReading) => "refused with 8",
+            Err(Refusal::JammedBucket) => "refused with 17",
             Err(Refusal::UnusableHead) => "refused with 9",
             Err(Refusal::InactiveHead) => "refused with 10",
             Err(refusal) => return Err(format!("the gateway answers {}", refusal.number())),

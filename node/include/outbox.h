@@ -30,7 +30,7 @@
  *   10  head     the 32 bits of a float: height of the water table in metres
  * Numbers 1..10 are the ten of a reading in gateway/include/waterbook.h, 1..3 the three of a notice; a void has 0 in
  * 4..10. Of a reading's 4..10 nothing is asked here, any 32 bits are kept as they are: it is the gateway that refuses
- * figures, with 8, 9 or 10.
+ * figures, with 8, 17, 9 or 10.
  *
  * box: 334 numbers; kept by the node from call to call, and over a change of battery.
  *    0        cell   which plot, 0..255

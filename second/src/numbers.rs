@@ -12,6 +12,8 @@ pub const OLD_ROW: usize = 32;
 pub const ROW: usize = 36;
 /// The largest single water field of a reading, in micrometres.
 pub const MOST: u32 = 1_000_000;
+/// The most rain that is believed of one day, in micrometres: above it a bucket is jammed.
+pub const MOST_RAIN: u32 = 600_000;
 /// The share that a card has whose text names none.
 pub const USUAL_SHARE: u32 = 20;
 

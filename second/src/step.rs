@@ -2,7 +2,7 @@
 
 use crate::head::{depth, head, Head};
 use crate::numbers::{fields_in_range, row_in_range, soil_in_range, turn_in_range};
-use crate::numbers::{Amounts, Card, Entry, Reading, Turn, Void, ROOM, ROW, SOIL};
+use crate::numbers::{Amounts, Card, Entry, Reading, Turn, Void, MOST_RAIN, ROOM, ROW, SOIL};
 use crate::rules::{day, void_day, Slots};
 use crate::sums::Sums;
 
@@ -52,7 +52,7 @@ pub fn void(card: &Card, soil: &[i64], rows: &mut [u32], v: &Void) -> (u32, Amou
     accept(row, *v, |slots| void_day(card, slots))
 }
 
-/// The first ten checks of a reading in their order; the first one met gives the number. The sums' check comes last.
+/// The checks of a reading in their order, but for the sums', which comes last; the first one met gives the number.
 pub fn check(card: &Card, soil: &[i64], rows: &[u32], r: &Reading) -> u32 {
     match check_site(card, soil, rows, &r.turn()) {
         0 => check_fields(r),
@@ -102,10 +102,13 @@ fn check_turn(life: u32, next: u32, turn: &Turn) -> u32 {
     }
 }
 
-/// Checks 8, 9 and 10: the reading's fields, then its head.
+/// Checks 8, 17, 9 and 10: the reading's fields, a jammed bucket, then the head.
 fn check_fields(r: &Reading) -> u32 {
     if !fields_in_range(r) {
         return 8;
+    }
+    if r.rain > MOST_RAIN {
+        return 17;
     }
     match head(r.head) {
         Head::Unusable => 9,

@@ -22,7 +22,7 @@ use Rattle.cell.specs.declared.checks.Verdict.the-variants.{Fine, Bad}
 use Rattle.cell.specs.Ranges.{cardOk, soilOk, soilOf, queueOf, rowWidth, rowOk, noticeOk, noticeOf, lifeOf, nextOf}
 use Rattle.cell.specs.Depth.{dryDepth}
 use Rattle.cell.specs.Refusals.{unless, fieldsVerdict, verdictOf}
-use Rattle.cell.specs.CheckLaws.{Passed, passed, verdict-fine, verdict-other, final-passed, final-fine, verdict-card, checked, InOrder, order-is, order-old, order-gap}
+use Rattle.cell.specs.CheckLaws.{Passed, passed, verdict-fine, verdict-other, final-passed, final-fine, verdict-card, rain-passed, checked, InOrder, order-is, order-old, order-gap}
 use Rattle.cell.specs.Parts.{Checked}
 use Rattle.cell.specs.Queue.{slot, just, total, shifted, spared}
 use Rattle.cell.specs.QueueLaws.{just-none, total-in, total-shifted, total-cleared, slot-empty, slot-cleared, slot-shifted, slot-spared, slot-joined, length-shifted, length-spared}
@@ -304,6 +304,12 @@ module _ (card : Card) (soil : List ℤ) (row : List ℕ) (e : Entry) where
                 h .delays,
               );
         })
+
+-- [7] the rain of an accepted reading is at most 600,000
+pub rain-taken : (card : Card) (soil : List ℤ) (row : List ℕ) (r : Reading) (a : Amounts) → answerOf card soil row (Entry.Reading r) ≡ Accepted a → r .rain ≤ 600000
+rain-taken card soil row r a g =
+    let t = step-taken card soil row (Entry.Reading r) a g in
+    rain-passed (getD soil 0 (pos 0)) r (t .depth) (t .checks .fields-fine)
 
 -- [3] a void in order, with its life and count in range, is accepted wherever card, soil numbers and row are in range: the queue shifts, and the count is used up
 module _ (card : Card) (soil : List ℤ) (row : List ℕ) (n : Notice)

@@ -21,15 +21,16 @@ use Rattle.cell.specs.declared.Card.{Card}
 use Rattle.cell.specs.declared.Depth.{Depth}
 use Rattle.cell.specs.declared.Entry.{Entry}
 use Rattle.cell.specs.declared.Notice.{Notice}
+use Rattle.cell.specs.declared.Reading.{Reading}
 use Rattle.cell.specs.declared.Refusal.{Refusal}
-use Rattle.cell.specs.declared.Refusal.the-variants.{BadCard, BadLengths, BadCell, BadSoil, BadRow, Old, Gap, BadReading, UnusableHead, InactiveHead, FullSums}
+use Rattle.cell.specs.declared.Refusal.the-variants.{BadCard, BadLengths, BadCell, BadSoil, BadRow, Old, Gap, BadReading, JammedBucket, UnusableHead, InactiveHead, FullSums}
 use Rattle.cell.specs.declared.checks.Verdict.{Verdict}
 use Rattle.cell.specs.declared.checks.Verdict.the-variants.{Fine, Bad}
 use Rattle.cell.specs.Parts.{Checked}
 use Rattle.cell.specs.Depth.{distance, depthOf}
 use Rattle.cell.specs.Ranges.{cardOk, soilOk, soilOf, rowOk, noticeOk, fieldsOk, noticeOf, lifeOf, nextOf, queueOf}
 use Rattle.cell.specs.RangeLaws.{card-in, soil-in, fields-in}
-use Rattle.cell.specs.Refusals.{refusalNumber, firstFailing, numberOf, isOld, isGap, isUnusable, isInactive, depthAt, sounded, fieldChecks, unless, fieldsVerdict, verdictOf}
+use Rattle.cell.specs.Refusals.{refusalNumber, firstFailing, numberOf, isOld, isGap, isJammed, isUnusable, isInactive, depthAt, sounded, fieldChecks, unless, fieldsVerdict, verdictOf}
 use Rattle.cell.specs.Step.{amountsBy, sumsTake, judged, finalOf, sumChecks, answerOf}
 use Rattle.cell.specs.RuleLaws.{depth-le}
 use Rattle.cell.specs.Still.{readingOf}
@@ -100,7 +101,10 @@ sounded-other top (Level x) e = let z : _≡_ {A = ℕ} 0 1 = cc in omega arith
 
 fields-other : (top : ℤ) (e : Entry) → ¬ (fieldsVerdict top e ≡ Bad FullSums)
 unfolding fieldsVerdict
-fields-other top (Entry.Reading r) = unless-other (fieldsOk r) BadReading (sounded top (classOf (r .head))) (λ f. let z : _≡_ {A = ℕ} 0 1 = cc in omega arith) (sounded-other top (classOf (r .head)))
+fields-other top (Entry.Reading r) =
+    unless-other (fieldsOk r) BadReading _ (λ f. let z : _≡_ {A = ℕ} 0 1 = cc in omega arith)
+    (unless-other (not (isJammed r)) JammedBucket _ (λ f. let z : _≡_ {A = ℕ} 0 1 = cc in omega arith)
+    (sounded-other top (classOf (r .head))))
 fields-other top (Entry.Void n) =
     unless-other (noticeOk n) BadReading _ (λ f. let z : _≡_ {A = ℕ} 0 1 = cc in omega arith) (λ f. let z : _≡_ {A = ℕ} 0 1 = cc in omega arith)
 
@@ -127,14 +131,25 @@ sounded-le top Dry d t e = let f : Depth.Under 20000000000 ≡ d = cc in rw (←
 sounded-le top Inactive d t e = let z : _≡_ {A = ℕ} 0 1 = cc in absurd (omega arith)
 sounded-le top Unusable d t e = let z : _≡_ {A = ℕ} 0 1 = cc in absurd (omega arith)
 
+-- where 8, 17 [7], 9 and 10 are passed, so is each
+module _ (top : ℤ) (r : Reading) (d : Depth) (f : fieldsVerdict top (Entry.Reading r) ≡ Fine d) where
+  fields-were : (fieldsOk r ≡ true) × (not (isJammed r) ≡ true) × (sounded top (classOf (r .head)) ≡ Fine d)
+  unfolding fieldsVerdict
+  fields-were =
+      let p = unless-fine (fieldsOk r) BadReading _ d f in
+      let q = unless-fine (not (isJammed r)) JammedBucket _ d (p .1) in
+      (p .0, q .0, q .1)
+
+  pub rain-passed : r .rain ≤ 600000
+  rain-passed = ltb-false 600000 (r .rain) (not-true _ (fields-were .1))
+
 -- the ranges, of the reading that the entry is stepped as
 pub checked : (card : Card) (soil : List ℤ) (row : List ℕ) (e : Entry) (d : Depth) → Passed card soil row e d → Checked card (soilOf soil) (readingOf e) d
-unfolding fieldsVerdict
 checked card soil row e d p =
     let c = card-in card (p .card-ok) in
     let s = soil-in soil (p .soil-ok) in
     let r = readingOf e in
-    let g = unless-fine (fieldsOk r) BadReading _ d (fields-as (getD soil 0 (pos 0)) e ∙ p .fields-fine) in
+    let g = fields-were (getD soil 0 (pos 0)) r d (fields-as (getD soil 0 (pos 0)) e ∙ p .fields-fine) in
     let f = fields-in r (g .0) in
     record {
       delays = c .delays;
@@ -151,7 +166,7 @@ checked card soil row e d p =
       septic = f .septic;
       pet = f .pet;
       etmin = f .etmin;
-      depth = sounded-le (getD soil 0 (pos 0)) (classOf (r .head)) d (s .top) (g .1);
+      depth = sounded-le (getD soil 0 (pos 0)) (classOf (r .head)) d (s .top) (g .2);
     }
 
 -- ---- an entry is in order if it goes on with the row's life at its next count, or starts a higher life at 0
@@ -218,8 +233,8 @@ unfolding fieldsVerdict
 fields-number top (Entry.Reading r) = simp (unless-number, sounded-number)
 fields-number top (Entry.Void n) = unless-number (noticeOk n) BadReading _
 
--- ---- a refusal's number is in 1..15
-pub refusal-in : (why : Refusal) → (1 ≤ refusalNumber why) × (refusalNumber why ≤ 15)
+-- ---- a refusal's number is in 1..17
+pub refusal-in : (why : Refusal) → (1 ≤ refusalNumber why) × (refusalNumber why ≤ 17)
 refusal-in BadCard = omega arith
 refusal-in BadLengths = omega arith
 refusal-in BadCell = omega arith
@@ -228,6 +243,7 @@ refusal-in BadRow = omega arith
 refusal-in Old = omega arith
 refusal-in Gap = omega arith
 refusal-in BadReading = omega arith
+refusal-in JammedBucket = omega arith
 refusal-in UnusableHead = omega arith
 refusal-in InactiveHead = omega arith
 refusal-in FullSums = omega arith
@@ -242,7 +258,7 @@ first-stays (check ∷ more) others h = go (check .1) refl (first-stays more oth
     go true p ih = rw p (ih (rw p at h))
     go false p ih = rw p
 
--- where 8 to 10 are passed, the depth that 15 is asked at is the verdict's
+-- where 9 and 10 are passed, the depth that 15 is asked at is the verdict's
 sounded-at : (top : ℤ) (h : Head) (d : Depth) → sounded top h ≡ Fine d → (isUnusable h ≡ false) × (isInactive h ≡ false) × (depthAt top h ≡ d)
 unfolding sounded depthAt
 sounded-at top (Level x) d e = (refl, refl, cc)
@@ -260,9 +276,9 @@ module _ (card : Card) (soil : List ℤ) (row : List ℕ) where
       → firstFailing (fieldChecks e ++ sumChecks card soil row e) ≡ cond (sumsTake card (soilOf soil) e d row) 0 15
   unfolding fieldsVerdict
   after-fields (Entry.Reading r) d f =
-      let u = unless-fine (fieldsOk r) BadReading _ d f in
-      let t = sounded-at (getD soil 0 (pos 0)) (classOf (r .head)) d (u .1) in
-      rw (u .0, t .0, t .1, t .2)
+      let u = fields-were (getD soil 0 (pos 0)) r d f in
+      let t = sounded-at (getD soil 0 (pos 0)) (classOf (r .head)) d (u .2) in
+      rw (u .0, u .1, t .0, t .1, t .2)
   after-fields (Entry.Void n) d f = let u = unless-fine (noticeOk n) BadReading _ d f in rw (u .0) (void-takes n d)
 
 module _ (card : Card) (soil : List ℤ) (row : List ℕ) (e : Entry) where
@@ -300,6 +316,6 @@ module _ (card : Card) (soil : List ℤ) (row : List ℕ) (e : Entry) where
       go (Fine d) = refl
       go (Bad why) = refl
 
-pub number-most : (answer : Answer) → numberOf answer ≤ 15
+pub number-most : (answer : Answer) → numberOf answer ≤ 17
 number-most (Accepted a) = omega arith
 number-most (Refused why) = refusal-in why .1

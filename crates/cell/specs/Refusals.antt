@@ -13,9 +13,10 @@ use Rattle.cell.specs.declared.Card.{Card}
 use Rattle.cell.specs.declared.Depth.{Depth}
 use Rattle.cell.specs.declared.Entry.{Entry}
 use Rattle.cell.specs.declared.Notice.{Notice}
+use Rattle.cell.specs.declared.Reading.{Reading}
 use Rattle.cell.specs.declared.Amounts.{Amounts}
 use Rattle.cell.specs.declared.Refusal.{Refusal}
-use Rattle.cell.specs.declared.Refusal.the-variants.{BadCard, BadLengths, BadCell, BadSoil, BadRow, Old, Gap, BadReading, UnusableHead, InactiveHead, FullSums}
+use Rattle.cell.specs.declared.Refusal.the-variants.{BadCard, BadLengths, BadCell, BadSoil, BadRow, Old, Gap, BadReading, JammedBucket, UnusableHead, InactiveHead, FullSums}
 use Rattle.cell.specs.declared.Answer.{Answer}
 use Rattle.cell.specs.declared.Answer.the-variants.{Accepted, Refused}
 use Rattle.cell.specs.declared.checks.Verdict.{Verdict}
@@ -24,7 +25,7 @@ use Rattle.cell.specs.Water.{water, net}
 use Rattle.cell.specs.Ranges.{cardOk, soilOk, rowOk, noticeOk, fieldsOk, noticeOf, lifeOf, nextOf}
 use Rattle.cell.specs.Depth.{depthOf, dryDepth}
 
--- ---- the numbers: 1 to 10 and 15 of a step, some of other calls too
+-- ---- the numbers in the order of the checks: 1 to 10, 15 [6] and 17 [7] of a step, some of other calls too
 abbrev pub refusalNumber : Refusal → ℕ
 refusalNumber BadCard = 1
 refusalNumber BadLengths = 2
@@ -34,6 +35,7 @@ refusalNumber BadRow = 5
 refusalNumber Old = 6
 refusalNumber Gap = 7
 refusalNumber BadReading = 8
+refusalNumber JammedBucket = 17
 refusalNumber UnusableHead = 9
 refusalNumber InactiveHead = 10
 refusalNumber FullSums = 15
@@ -91,6 +93,10 @@ isOld life next n = ltb (n .life) life || (eqb (n .life) life && ltb (n .count) 
 unfoldable pub isGap : ℕ → ℕ → Notice → Bool
 isGap life next n = (eqb (n .life) life && ltb next (n .count)) || (ltb life (n .life) && not (eqb (n .count) 0))
 
+-- [7] 17. a jammed bucket: rain above 600,000
+abbrev pub isJammed : Reading → Bool
+isJammed r = ltb 600000 (r .rain)
+
 -- 9. head unusable; 10. head marked inactive
 abbrev pub isUnusable : Head → Bool
 isUnusable Unusable = true
@@ -118,9 +124,14 @@ sounded top Inactive = Bad InactiveHead
 sounded top Dry = Fine dryDepth
 sounded top (Level x) = Fine (depthOf top (levelUm x))
 
--- 8 to 10, each with its number and whether it is passed; of a void [3] the life and count part of 8, no other
+-- 8, 17 [7], 9 and 10, each with its number and whether it is passed; of a void [3] the life and count part of 8, no other
 abbrev pub fieldChecks : Entry → List (ℕ × Bool)
-fieldChecks (Entry.Reading r) = (8, fieldsOk r) ∷ (9, not (isUnusable (classOf (r .head)))) ∷ (10, not (isInactive (classOf (r .head)))) ∷ []
+fieldChecks (Entry.Reading r) =
+    (8, fieldsOk r)
+    ∷ (17, not (isJammed r))
+    ∷ (9, not (isUnusable (classOf (r .head))))
+    ∷ (10, not (isInactive (classOf (r .head))))
+    ∷ []
 fieldChecks (Entry.Void n) = (8, noticeOk n) ∷ []
 
 -- a check: refused with r where it fails, else on to the next
@@ -128,12 +139,15 @@ unfoldable pub unless : Bool → Refusal → Verdict → Verdict
 unless true r next = next
 unless false r next = Bad r
 
--- the checks after 7: 8, 9 and 10 of a reading; of a void [3] the life and count part of 8. A verdict that passes carries a depth, at which no rule of a void looks
+-- the checks after 7: 8, 17 [7], 9 and 10 of a reading; of a void [3] the life and count part of 8. A verdict that passes carries a depth, at which no rule of a void looks
 unfoldable pub fieldsVerdict : ℤ → Entry → Verdict
-fieldsVerdict top (Entry.Reading r) = unless (fieldsOk r) BadReading (sounded top (classOf (r .head)))
+fieldsVerdict top (Entry.Reading r) =
+    unless (fieldsOk r) BadReading
+    (unless (not (isJammed r)) JammedBucket
+    (sounded top (classOf (r .head))))
 fieldsVerdict top (Entry.Void n) = unless (noticeOk n) BadReading (Fine dryDepth)
 
--- the checks from 5 to 10, in their order: of the row they ask whether it is in range, its life and its next count
+-- the checks from 5 to 10, 17 [7] among them, in their order: of the row they ask whether it is in range, its life and its next count
 abbrev pub rowVerdict : ℤ → Bool → ℕ → ℕ → Entry → Verdict
 rowVerdict top fits life next e =
     unless fits BadRow

@@ -43,7 +43,7 @@ fields-still n = go (noticeOk n)
     go false = refl
 
 pub fields-as : (top : ℤ) (e : Entry) → fieldsVerdict top (Entry.Reading (readingOf e)) ≡ fieldsVerdict top e
-unfolding fieldsVerdict sounded
+unfolding fieldsVerdict sounded unless
 fields-as top (Entry.Reading r) = refl
 fields-as top (Entry.Void n) = rw (fields-still n, dry-mark)
 

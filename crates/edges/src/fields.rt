@@ -1,4 +1,4 @@
-// Number 8: the other fields of a reading. What decides how much plants take of the day's own water.
+// Number 8: the other fields of a reading, but for rain. What decides how much plants take of the day's own water.
 use crate::plots;
 use crate::show;
 
@@ -27,8 +27,6 @@ fn day(rain: u32, irrig: u32, septic: u32, etmin: u32, pet: u32, amc: u32) {
 
 pub fn cases() {
     // The ends of the ranges.
-    day(1000000, 0, 1000, 2000, 5000, 2);
-    day(1000001, 0, 1000, 2000, 5000, 2);
     day(50800, 1000000, 1000, 2000, 5000, 2);
     day(50800, 1000001, 1000, 2000, 5000, 2);
     day(50800, 0, 1000000, 2000, 5000, 2);

@@ -2,13 +2,13 @@
 use crate::plots;
 use crate::show;
 
-// The most rain there is, on ground of this wetness, given to the example's plot with this curve number.
+// The most rain that is accepted, on ground of this wetness, given to the example's plot with this curve number.
 fn storm(cn: i64, amc: u32) {
-    show::form(b"rain=1000000 amc=#", &[amc as u64]);
+    show::form(b"rain=600000 amc=#", &[amc as u64]);
     show::signed(b" cn=", cn);
     let soil = [10000000, 1500000, 200, 100000, cn];
     let mut r = plots::reading();
-    r.rain = 1000000;
+    r.rain = 600000;
     r.amc = amc;
     show::plot(&soil, r);
 }
@@ -20,10 +20,10 @@ fn grounds(cn: i64) {
 }
 
 pub fn cases() {
-    grounds(1);
     grounds(2);
-    grounds(11);
-    grounds(12);
+    grounds(3);
+    grounds(17);
+    grounds(18);
     grounds(74);
     grounds(75);
     grounds(76);

@@ -1,4 +1,4 @@
-// Runs the cases of document 01 that are not proved: its unstarred edges, and both sides of each refusal number; for [1], storms on dry and on wet ground; for [2], the delay under 30 depths; for [3], voids; for [5], shares.
+// Runs the cases of document 01 that are not proved: its unstarred edges, and both sides of each refusal number; for [1], storms on dry and on wet ground; for [2], the delay under 30 depths; for [3], voids; for [5], shares; for [7], a jammed bucket.
 mod card_texts;
 mod cards;
 mod delays;
@@ -6,6 +6,7 @@ mod fields;
 mod grounds;
 mod heads;
 mod plots;
+mod rains;
 mod readings;
 mod rows;
 mod shares;
@@ -23,6 +24,7 @@ fn main() {
     grounds::cases();
     rows::cases();
     fields::cases();
+    rains::cases();
     heads::cases();
     sheets::cases();
     readings::cases();

@@ -120,4 +120,4 @@ module _ (l : List ℤ) (ten : length l ≡ 10) (fit : AllFit l) where
     where
       go : (b : Bool) → eqb n 0 ≡ b → amountsPrintable (amountsFrom l) ≡ true
       go true q = amounts-print (place 8 (rw q at e))
-      go false q = amounts-print (λ i h k. empty (and-2 (leb n 10 || eqb n 15) (zeros l) (rw q at e)) i h)
+      go false q = amounts-print (λ i h k. empty (and-2 (leb n 10 || eqb n 15 || eqb n 17) (zeros l) (rw q at e)) i h)

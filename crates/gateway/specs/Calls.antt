@@ -11,7 +11,7 @@ use Rattle.cell.specs.declared.Answer.the-variants.{Accepted}
 use Rattle.cell.specs.declared.Card.{Card}
 use Rattle.cell.specs.declared.Collected.{Collected}
 use Rattle.cell.specs.declared.Entry.{Entry}
-use Rattle.cell.specs.declared.Refusal.the-variants.{InactiveHead, FullSums}
+use Rattle.cell.specs.declared.Refusal.the-variants.{JammedBucket, InactiveHead, FullSums}
 use Rattle.cell.specs.Refusals.{refusalNumber, notAddable, numberOf, amountsOf}
 use Rattle.cell.specs.Ranges.{rowWidth}
 use Rattle.cell.specs.Collect.{collectedBy, listBy}
@@ -144,9 +144,11 @@ WritesReading reading buf got = WritesText (wide reading readingWidth && wide go
 abbrev pub WritesVoid : List ℕ → List ℕ → List ℕ → ℕ → List ℕ → List ℕ → Type 0
 WritesVoid notice buf got = WritesText (wide notice noticeWidth && wide got gotWidth) (voidChecks (noticeFrom notice) buf) (voidText (noticeFrom notice)) buf got
 
--- by number and signs a host's number and amounts can be an answer of a step: accepted, and no amount negative but recharge; or refused by one of its checks, 1 to 10 or 15 [6], with ten zeros
+-- by number and signs a host's number and amounts can be an answer of a step: accepted, and no amount negative but recharge; or refused by one of its checks, 1 to 10, 15 [6] or 17 [7], with ten zeros
 unfoldable pub isAnswer : ℕ → List ℤ → Bool
-isAnswer number amounts = cond (eqb number 0) (signsFrom 0 amountsRecharge amounts) ((leb number (refusalNumber InactiveHead) || eqb number (refusalNumber FullSums)) && zeros amounts)
+isAnswer number amounts =
+    cond (eqb number 0) (signsFrom 0 amountsRecharge amounts)
+    ((leb number (refusalNumber InactiveHead) || eqb number (refusalNumber FullSums) || eqb number (refusalNumber JammedBucket)) && zeros amounts)
 
 abbrev pub WritesAnswer : ℕ → ℕ → List ℤ → List ℕ → List ℕ → ℕ → List ℕ → List ℕ → Type 0
 WritesAnswer cell number amounts buf got =

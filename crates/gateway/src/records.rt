@@ -188,5 +188,5 @@ pub fn is_answer(number: u32, amounts: &[i64]) -> bool
     if number == 0 {
         return signs(amounts, 8);
     }
-    ((number <= 10) | (number == 15)) & all_zero(amounts)
+    ((number <= 10) | (number == 15) | (number == 17)) & all_zero(amounts)
 }

@@ -46,6 +46,12 @@ pub shares : (bookOf (bytes "cells=1 delays=2 depth=1000000 depth=2000000 share=
 unfolding floorDiv usable floorUm levelUm classOf carriedOf ofBits toBits dec decF numAt numStart numGo hexAt hexGo byteAt valAt valText formAt formText manyAt sided depthOf distance slot total shifted taken spared joined sumOf withSum added countsOk noneOf risingFrom depthsOk shareOk cardOk within soilOk soilOf lifeOf nextOf slotsOf queueOf slotsOk formOk rowOk noticeOk fieldsOk isOld isGap sounded unless fieldsVerdict verdictOf curveOf stormOf reachOf delayOf shallowOf runoffOf lackOf fadingOf etsatOf drainOf storedOf directOf rechargeOf given release curve storm delay runoff etvad lack draws etstor etsat drain sunk stored direct recharge queueAfter stepAmounts shiftAmounts amountsBy queueBy rowMoved runoffBy drainBy rowAfter sumsTake judged finalOf answerOf newRow partAt putAt amountsFit sumsWithin addable plusOf sheetBy addedOf soilFits rowsFit cellFits refuse siteAnswer rowsBy siteRows clearNumber clearRows readReading readVoid readEntry parse countsOf rangeCounts tailAt keyAt depthsAt answerText lineText sheetText codeText malformedText entriesIn answeredOf entriesText clearedText bookOf
 shares = (refl, refl, refl)
 
+-- [7] a jammed bucket: its reading is refused with 17, the next is a gap, until the day as it was has used up the count
+pub jammed : bookOf (bytes "cells=2 delays=2 depth=1000000 depth=2000000\ntop=10000000 etdepth=1500000 vadpor=200 leak=100000 cn=80\ntop=0 etdepth=1500000 vadpor=200 leak=100000 cn=80\ncell=0 life=0 count=0 rain=50800 irrig=0 septic=0 etmin=2000 pet=5000 amc=2 head=40c00000\ncell=0 life=0 count=1 rain=940000 irrig=0 septic=0 etmin=2000 pet=5000 amc=2 head=40c00000\ncell=0 life=0 count=2 rain=0 irrig=0 septic=0 etmin=2000 pet=5000 amc=2 head=40c00000\ncell=0 life=0 count=1 rain=9400 irrig=0 septic=0 etmin=2000 pet=5000 amc=2 head=40c00000\ncell=0 life=0 count=2 rain=0 irrig=0 septic=0 etmin=2000 pet=5000 amc=2 head=40c00000\n")
+    ≡ bytes "cell=0 code=0 inflow=50800 runoff=14287 etvad=2000 etstor=0 etsat=0 drain=0 release=0 stored=34513 recharge=0 left=34513\ncell=0 code=17 inflow=0 runoff=0 etvad=0 etstor=0 etsat=0 drain=0 release=0 stored=0 recharge=0 left=0\ncell=0 code=7 inflow=0 runoff=0 etvad=0 etstor=0 etsat=0 drain=0 release=0 stored=0 recharge=0 left=0\ncell=0 code=0 inflow=9400 runoff=0 etvad=2000 etstor=0 etsat=0 drain=0 release=0 stored=7400 recharge=0 left=41913\ncell=0 code=0 inflow=0 runoff=0 etvad=0 etstor=2000 etsat=0 drain=0 release=34513 stored=0 recharge=34513 left=5400\nsteps=3 inflow=60200 runoff=14287 etvad=4000 etstor=2000 etsat=0 drain=0 release=34513 stored=41913 recharge=34513\n"
+unfolding floorDiv usable floorUm levelUm classOf carriedOf ofBits toBits dec decF numAt numStart numGo hexAt hexGo byteAt valAt valText formAt formText manyAt sided depthOf distance slot total shifted taken spared joined sumOf withSum added countsOk noneOf risingFrom depthsOk shareOk cardOk within soilOk soilOf lifeOf nextOf slotsOf queueOf slotsOk formOk rowOk noticeOk fieldsOk isOld isGap sounded unless fieldsVerdict verdictOf curveOf stormOf reachOf delayOf shallowOf runoffOf lackOf fadingOf etsatOf drainOf storedOf directOf rechargeOf given release curve storm delay runoff etvad lack draws etstor etsat drain sunk stored direct recharge queueAfter stepAmounts shiftAmounts amountsBy queueBy rowMoved runoffBy drainBy rowAfter sumsTake judged finalOf answerOf newRow partAt putAt amountsFit sumsWithin addable plusOf sheetBy addedOf soilFits rowsFit cellFits refuse siteAnswer rowsBy siteRows clearNumber clearRows readReading readVoid readEntry parse countsOf rangeCounts tailAt keyAt depthsAt answerText lineText sheetText codeText malformedText entriesIn answeredOf entriesText clearedText bookOf
+jammed = refl
+
 -- a last line without its end: malformed at its place, and no sheet
 pub cut : bookOf (bytes "cells=1 delays=2 depth=1000000 depth=2000000\ntop=10000000 etdepth=1500000 vadpor=200 leak=100000 cn=80\ncell=0 life=0 count=0 rain=50800 irrig=0 septic=1000 etmin=2000 pet=5000 amc=2 head=410c0000\ncell=0 life=0 count=1 rain=0 irrig=0 septic=0 etmin=2000 pet=5000 amc=2 head=410c0000") ≡ bytes "cell=0 code=0 inflow=51800 runoff=14287 etvad=2000 etstor=0 etsat=500 drain=0 release=0 stored=34513 recharge=500 left=34513\ncode=12 line=4\n"
 unfolding floorDiv usable floorUm levelUm classOf carriedOf ofBits toBits dec decF numAt numStart numGo hexAt hexGo byteAt valAt valText formAt formText manyAt sided depthOf distance slot total shifted taken spared joined sumOf withSum added countsOk noneOf risingFrom depthsOk shareOk cardOk within soilOk soilOf lifeOf nextOf slotsOf queueOf slotsOk formOk rowOk noticeOk fieldsOk isOld isGap sounded unless fieldsVerdict verdictOf curveOf stormOf reachOf delayOf shallowOf runoffOf lackOf fadingOf etsatOf drainOf storedOf directOf rechargeOf given release curve storm delay runoff etvad lack draws etstor etsat drain sunk stored direct recharge queueAfter stepAmounts shiftAmounts amountsBy queueBy rowMoved runoffBy drainBy rowAfter sumsTake judged finalOf answerOf newRow partAt putAt amountsFit sumsWithin addable plusOf sheetBy addedOf soilFits rowsFit cellFits refuse siteAnswer rowsBy siteRows clearNumber clearRows readReading readVoid readEntry parse countsOf rangeCounts tailAt keyAt depthsAt answerText lineText sheetText codeText malformedText entriesIn answeredOf entriesText clearedText bookOf

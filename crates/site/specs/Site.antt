@@ -32,7 +32,7 @@ rowsFit card rows = eqb (length rows) (rowWidth card * card .cells)
 unfoldable pub cellFits : Card → Entry → Bool
 cellFits card e = ltb (cellOf e) (card .cells)
 
--- the checks of a step, 1 to 10 and 15 [6], of a void [3] 1 to 8: the number of each, and whether it is passed
+-- the checks of a step, 1 to 8, 17 [7], 9, 10 and 15 [6], of a void [3] 1 to 8: the number of each, and whether it is passed
 unfoldable pub checksOf : Card → List ℤ → List ℕ → Entry → List (ℕ × Bool)
 checksOf card soil rows e =
     let own : List ℤ = partAt soilWidth (cellOf e) soil in

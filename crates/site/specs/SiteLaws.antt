@@ -1,11 +1,11 @@
 -- Laws of a step of the site and of clearing. Assumes nothing.
 use mathlib.Core.Path.{_≡_, refl, sym, ap, _∙_}
-use mathlib.Core.Bool.{Bool, true, false, cond, _&&_, and-eq-true-iff}
+use mathlib.Core.Bool.{Bool, true, false, cond, not, _&&_, and-eq-true-iff}
 use mathlib.Core.List.{List, [], _∷_, _++_}
 use Prim.Native.Nat.{ℕ, suc, _+_, _*_, _≤_, _<_}
 use native.Mathlib.Nat.{mul-le-mul-left}
 use native.Mathlib.Omega.{arith}
-use borrow.Author.Tests.{ltb-true, eqb-true, ne-eqb}
+use borrow.Author.Tests.{ltb-true, eqb-true, ne-eqb, not-false}
 use lib.Dec.{eqb}
 use lib.IntN.{ℤ}
 use lib.ListN.{length, getD, take, drop, replicate, length-replicate}
@@ -18,11 +18,11 @@ use Rattle.cell.specs.declared.Notice.{Notice}
 use Rattle.cell.specs.declared.Reading.{Reading}
 use Rattle.cell.specs.declared.Refusal.{Refusal}
 use Rattle.cell.specs.declared.Refusal.the-variants.{BadCard, BadLengths, BadCell, FullSums}
-use Rattle.cell.specs.Ranges.{cardOk, rowWidth, noticeOk, noticed, noticeOf, cellOf}
+use Rattle.cell.specs.Ranges.{cardOk, rowWidth, noticeOk, fieldsOk, noticed, noticeOf, cellOf}
 use Rattle.cell.specs.Step.{answerOf, newRow}
-use Rattle.cell.specs.Refusals.{refusalNumber, firstFailing, fieldChecks, numberOf, nothing, amountsOf}
+use Rattle.cell.specs.Refusals.{refusalNumber, firstFailing, isJammed, fieldChecks, numberOf, nothing, amountsOf}
 use Rattle.cell.specs.CheckLaws.{row-number, refusal-in}
-use Rattle.cell.specs.AnswerLaws.{step-taken, stays, bad-card, length-after}
+use Rattle.cell.specs.AnswerLaws.{step-taken, stays, bad-card, length-after, rain-taken}
 use Rattle.site.specs.Rows.{partAt, putAt}
 use Rattle.site.specs.RowsLaws.{put-back, put-same, put-other, put-length, put-outside, room, part-zeros}
 use Rattle.site.specs.Site.{soilWidth, soilFits, rowsFit, cellFits, checksOf, refuse, siteAnswer, rowsBy, siteRows, SiteGives, clearNumber, clearRows, ClearGives}
@@ -174,6 +174,11 @@ module _ (card : Card) (soil : List ℤ) (rows : List ℕ) (i : Entry) where
     pub rows-length : length (siteRows card soil rows i) ≡ length rows
     rows-length = rw rows-are (put-length (rowWidth card) (cellOf i) (newRow card soilPart rowPart i) rows new-length has-room)
 
+-- [7] the rain of an accepted reading is at most 600,000
+pub rain-most : (card : Card) (soil : List ℤ) (rows : List ℕ) (r : Reading) (a : Amounts) → siteAnswer card soil rows (Entry.Reading r) ≡ Accepted a → r .rain ≤ 600000
+rain-most card soil rows r a e =
+    rain-taken card (partAt soilWidth (r .cell) soil) (partAt (rowWidth card) (r .cell) rows) r a (row-answer card soil rows (Entry.Reading r) a e)
+
 -- ---- what an answer and the rows promise, where they are those of the definitions
 module _ (card : Card) (soil : List ℤ) (rows : List ℕ) (i : Entry) where
   amounts-by : (x : Answer) → siteAnswer card soil rows i ≡ x
@@ -209,7 +214,7 @@ module _ (card : Card) (rows : List ℕ) where
 pub refused-gives : (card : Card) (soil : List ℤ) (rows : List ℕ) (i : Entry) (why : Refusal) → siteAnswer card soil rows i ≡ Refused why → SiteGives card soil rows i (Refused why) rows
 refused-gives card soil rows i why e = gives card soil rows i (sym e) (sym (rows-stay card soil rows i why e))
 
--- ---- an entry refused with 8, 9, 10 or 15 does not use up its count
+-- ---- an entry refused with 8, 17, 9, 10 or 15 does not use up its count
 -- the checks of a list, each with a number below n: they are passed where the first failing check of them and others has the number n or a higher one
 abbrev Below : ℕ → List (ℕ × Bool) → Type 0
 Below n [] = Unit {0}
@@ -275,7 +280,7 @@ count-open card soil rows i i' {answer} {after} g h n = (stay, same, ap firstFai
     were : firstFailing (take 7 (checksOf card soil rows i)) ≡ 0
     were = seven-passed card soil rows i (rw (g .number-is) at h)
 
--- [3] a void is never refused with a number above 8: 9, 10 and 15 do not concern it
+-- [3] a void is never refused with a number above 8: 17, 9, 10 and 15 do not concern it
 pub void-number : (card : Card) (soil : List ℤ) (rows : List ℕ) (n : Notice) → numberOf (siteAnswer card soil rows (Entry.Void n)) ≤ 8
 unfolding checksOf
 void-number card soil rows n =
@@ -283,7 +288,7 @@ void-number card soil rows n =
     let b = first-below 9 (checksOf card soil rows i) (omega arith) (omega arith, (omega arith, (omega arith, (omega arith, (omega arith, (omega arith, (omega arith, (omega arith, tt)))))))) in
     rw (first-failing card soil rows i) (omega (arith, b))
 
--- [3] so a reading that was refused with 8, 9, 10 or 15, its life and count in range, can be mended: a void of its cell, life and count is accepted
+-- [3] so a reading that was refused with 8, 17, 9, 10 or 15, its life and count in range, can be mended: a void of its cell, life and count is accepted
 pub void-mends : (card : Card) (soil : List ℤ) (rows : List ℕ) (r : Reading) {answer : Answer} {after : List ℕ} → SiteGives card soil rows (Entry.Reading r) answer after → 8 ≤ numberOf answer
     → noticeOk (noticed r) ≡ true → (a : Amounts) × (siteAnswer card soil after (Entry.Void (noticed r)) ≡ Accepted a)
 unfolding checksOf
@@ -291,6 +296,30 @@ void-mends card soil rows r {answer} {after} g h k =
     let i = Entry.Void (noticed r) in
     if-none-fails (siteAnswer card soil after i)
     (first-failing card soil after i ∙ both-pass (take 7 (checksOf card soil after i)) (fieldChecks i) (count-open card soil rows (Entry.Reading r) i g h refl .2) (rw k))
+
+-- [7] 17 says one thing: every field of the reading is in its range, and its rain is above 600,000
+only-jammed : (checks rest : List (ℕ × Bool)) (ok free : Bool) → Below 17 checks → Below 17 rest → firstFailing (checks ++ ((8, ok) ∷ (17, free) ∷ rest)) ≡ 17 → (ok ≡ true) × (free ≡ false)
+only-jammed [] rest ok free b w e = go ok free e
+  where
+    go : (x y : Bool) → cond x (cond y (firstFailing rest) 17) 8 ≡ 17 → (x ≡ true) × (y ≡ false)
+    go true false f = (refl, refl)
+    go true true f = absurd (omega (arith, first-below 17 rest (omega arith) w, f))
+    go false y f = absurd (omega (arith, f))
+only-jammed (check ∷ more) rest ok free b w e = go (check .1) refl (only-jammed more rest ok free (b .1) w)
+  where
+    go : (t : Bool) → check .1 ≡ t → (firstFailing (more ++ ((8, ok) ∷ (17, free) ∷ rest)) ≡ 17 → (ok ≡ true) × (free ≡ false)) → (ok ≡ true) × (free ≡ false)
+    go true p ih = ih (rw p at e)
+    go false p ih = absurd (let k : check .0 ≡ 17 = rw p at e in omega (arith, b .0, k))
+
+pub jammed-says : (card : Card) (soil : List ℤ) (rows : List ℕ) (r : Reading) → numberOf (siteAnswer card soil rows (Entry.Reading r)) ≡ 17 → (fieldsOk r ≡ true) × (600000 < r .rain)
+unfolding checksOf
+jammed-says card soil rows r n =
+    let i = Entry.Reading r in
+    let p =
+    only-jammed (take 7 (checksOf card soil rows i)) (drop 9 (checksOf card soil rows i)) (fieldsOk r) (not (isJammed r))
+    (omega arith, (omega arith, (omega arith, (omega arith, (omega arith, (omega arith, (omega arith, tt))))))) (omega arith, (omega arith, (omega arith, tt)))
+    (sym (first-failing card soil rows i) ∙ n) in
+    (p .0, ltb-true 600000 (r .rain) (not-false _ (p .1)))
 
 -- ---- the answer and the new row depend on nothing but the card, the two lengths, the named cell's soil numbers and row, and the entry
 module _ (card : Card) (soil soil' : List ℤ) (rows rows' : List ℕ) (i : Entry)

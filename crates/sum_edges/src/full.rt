@@ -49,13 +49,14 @@ fn open() {
     show::step(b"the next day", &mut row, later);
 }
 
-// Numbers 10, 9 and 8 come before 15 on a plot whose sums are full.
+// Numbers 10, 9, 17 and 8 come before 15 on a plot whose sums are full.
 fn readings() {
     let inactive = plots::reading(7, 50800, 0x7149_f2ca);
     let unusable = plots::reading(7, 50800, 0x461c_4001);
     days::given(b"an inactive head", inactive, FULL, FULL);
     days::given(b"an unusable head", unusable, FULL, FULL);
-    days::under(1000000, FULL, FULL);
+    days::under(600000, FULL, FULL);
+    days::under(600001, FULL, FULL);
     days::under(1000001, FULL, FULL);
 }
 

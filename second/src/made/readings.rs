@@ -4,7 +4,7 @@ use super::dice::Dice;
 use super::site::{wanted_depth, Site, HEADS};
 use crate::head::{depth, DRY, INACTIVE};
 use crate::journal::LONGEST;
-use crate::numbers::{Reading, MOST, ROW, SOIL};
+use crate::numbers::{Reading, MOST, MOST_RAIN, ROW, SOIL};
 use crate::rules::curve_number;
 use crate::text::{write_card, write_reading};
 
@@ -51,7 +51,7 @@ fn good_reading(site: &Site, dice: &mut Dice) -> Reading {
     reading.amc = dice.within(1, 3) as u32;
     reading.head = good_head(site, dice, cell);
     if !dice.once_in(4) {
-        reading.rain = water(dice);
+        reading.rain = rain(dice);
         reading.irrig = if dice.once_in(2) { 0 } else { water(dice) };
     }
     reading.septic = if dice.once_in(2) { 0 } else { water(dice) };
@@ -78,6 +78,14 @@ fn water(dice: &mut Dice) -> u32 {
     }
 }
 
+/// An amount of rain that is believed, often at an edge.
+fn rain(dice: &mut Dice) -> u32 {
+    match dice.below(8) {
+        0 => dice.pick(&[0, 1, MOST_RAIN - 1, MOST_RAIN]),
+        _ => water(dice) % (MOST_RAIN + 1),
+    }
+}
+
 /// A dry head or a level: the usual one, one beside it, or one at a wanted depth.
 fn good_head(site: &Site, dice: &mut Dice, cell: usize) -> u32 {
     let usual = site.usual[cell];
@@ -101,7 +109,7 @@ fn head_at(level: i64) -> u32 {
     ((level as f64 / 1_000_000.0) as f32).to_bits()
 }
 
-/// Set rain so that it just fills, or just doesn't fill, the pores above the table.
+/// Set rain and irrigation so that they just fill, or just don't fill, the pores above the table.
 fn fill_pores(site: &Site, dice: &mut Dice, reading: &mut Reading) {
     let plot = SOIL * reading.cell as usize;
     let (top, vadpor) = (site.soil[plot], site.soil[plot + 2]);
@@ -109,13 +117,13 @@ fn fill_pores(site: &Site, dice: &mut Dice, reading: &mut Reading) {
         return;
     };
     let room = d.saturating_mul(vadpor) / 1000 + dice.within(-1, 2);
-    if (0..=1_000_000).contains(&room) {
-        reading.rain = room as u32;
-        reading.irrig = 0;
-        if dice.once_in(2) {
-            reading.irrig = dice.below(room as u64 + 1) as u32;
-            reading.rain -= reading.irrig;
-        }
+    let (most_rain, most_irrig) = (i64::from(MOST_RAIN), i64::from(MOST));
+    if (0..=most_rain + most_irrig).contains(&room) {
+        let least = (room - most_rain).max(0);
+        let some = dice.within(least, room.min(most_irrig));
+        let irrig = dice.pick(&[least, some]);
+        reading.irrig = irrig as u32;
+        reading.rain = (room - irrig) as u32;
     }
 }
 
@@ -129,7 +137,7 @@ fn wet_first(site: &Site, dice: &mut Dice, reading: &mut Reading) {
     let first = 2_540 * i64::from(site.card.share) * (100 - c) / c;
     let more = dice.below(600) as i64;
     let rain = first + dice.pick(&[-1, 0, 1, 252, 253, 254, more, more]);
-    if (0..=i64::from(MOST)).contains(&rain) {
+    if (0..=i64::from(MOST_RAIN)).contains(&rain) {
         reading.rain = rain as u32;
     }
 }
@@ -144,7 +152,7 @@ fn swap_battery(dice: &mut Dice, reading: &mut Reading) {
 /// Put one fault into a reading.
 pub fn fault(site: &Site, dice: &mut Dice, reading: &mut Reading) {
     let cells = site.card.cells;
-    match dice.below(12) {
+    match dice.below(13) {
         0 => reading.cell = dice.pick(&[cells, cells + 1, 256, u32::MAX]),
         1 => reading.count = reading.count.saturating_sub(1),
         2 => reading.life = reading.life.saturating_sub(1),
@@ -156,6 +164,7 @@ pub fn fault(site: &Site, dice: &mut Dice, reading: &mut Reading) {
         8 => *a_water(dice, reading) = dice.pick(&[1_000_001, u32::MAX]),
         9 => reading.head = dice.pick(&HEADS[12..]),
         10 => reading.head = INACTIVE,
+        11 => reading.rain = dice.pick(&[MOST_RAIN + 1, 940_000, MOST - 1, MOST]),
         _ => reading.head = dice.roll() as u32,
     }
 }

@@ -5,7 +5,7 @@ use super::entries::entry_bytes;
 use super::readings::{card_bytes, fault};
 use super::site::{made_share, Site};
 use crate::head::DRY;
-use crate::numbers::{Card, Entry, Reading, ROW};
+use crate::numbers::{Card, Entry, Reading, MOST, MOST_RAIN, ROW};
 use crate::step::enter;
 
 /// A cell with its top at 0 and delay depths a metre apart, so that heads hit them exactly.
@@ -42,7 +42,7 @@ pub fn wet_reading(site: &Site, dice: &mut Dice, delay: u32, weather: u64) -> Re
             reading.etmin = reading.pet - dice.below(3) as u32;
         }
         1 | 2 => reading.rain = dice.below(4_000) as u32,
-        _ => (reading.rain, reading.irrig) = (1_000_000, 1_000_000),
+        _ => (reading.rain, reading.irrig) = (MOST_RAIN, MOST),
     }
     reading
 }

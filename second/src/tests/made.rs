@@ -26,7 +26,7 @@ fn tally(seed: u64, count: u64) -> BTreeMap<String, u64> {
 #[test]
 fn every_reachable_number_is_met() {
     let tally = tally(2024, 600);
-    for number in [0, 1, 3, 4, 6, 7, 8, 9, 10, 12] {
+    for number in [0, 1, 3, 4, 6, 7, 8, 9, 10, 12, 17] {
         assert!(tally.contains_key(&format!("code={number}")), "{number} in {tally:?}");
     }
     for number in [2, 5, 11, 15, 16] {

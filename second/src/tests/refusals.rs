@@ -1,8 +1,8 @@
 //! Each refusal number, both sides of its edge, and the order of the checks.
 
 use super::{card, example, PLOT};
-use crate::numbers::{Amounts, Card, Reading, OLD_ROW, ROW};
-use crate::step::{clear, step};
+use crate::numbers::{Amounts, Card, Reading, Void, OLD_ROW, ROW};
+use crate::step::{clear, step, void};
 
 /// The number of a step that must leave the rows alone if it is refused.
 fn number(card: &Card, soil: &[i64], rows: &[u32], reading: &Reading) -> u32 {
@@ -126,8 +126,8 @@ fn numbers_6_and_7() {
 
 #[test]
 fn number_8() {
-    let fields: [fn(&mut Reading) -> &mut u32; 5] =
-        [|r| &mut r.rain, |r| &mut r.irrig, |r| &mut r.septic, |r| &mut r.etmin, |r| &mut r.pet];
+    let fields: [fn(&mut Reading) -> &mut u32; 4] =
+        [|r| &mut r.irrig, |r| &mut r.septic, |r| &mut r.etmin, |r| &mut r.pet];
     for field in fields {
         let of = |water| {
             let mut reading = Reading { etmin: 0, pet: 1_000_000, ..example() };
@@ -136,12 +136,51 @@ fn number_8() {
         };
         assert_eq!([0, 1_000_000, 1_000_001, u32::MAX].map(of), [0, 0, 8, 8]);
     }
+    let rain = |rain| of_reading(&Reading { rain, ..example() });
+    assert_eq!([0, 600_000, 1_000_001, u32::MAX].map(rain), [0, 0, 8, 8]);
     let amc = |amc| of_reading(&Reading { amc, ..example() });
     assert_eq!([0, 1, 2, 3, 4].map(amc), [8, 0, 0, 0, 8]);
     let life = |life| of_reading(&Reading { life, ..example() });
     assert_eq!([65_535, 65_536].map(life), [0, 8]);
     let etmin = |etmin| of_reading(&Reading { etmin, ..example() });
     assert_eq!([5000, 5001].map(etmin), [0, 8]);
+}
+
+#[test]
+fn number_17() {
+    let jammed = Reading { rain: 600_001, ..example() };
+    let rain = |rain| of_reading(&Reading { rain, ..jammed });
+    assert_eq!([600_000, 600_001, 940_000, 1_000_000, 1_000_001].map(rain), [0, 17, 17, 17, 8]);
+    // The other waters may be as much as ever.
+    let most = Reading { rain: 600_000, irrig: 1_000_000, septic: 1_000_000, ..jammed };
+    assert_eq!(of_reading(&most), 0);
+    // Every fault of a field comes first, and every head after.
+    assert_eq!(of_reading(&Reading { etmin: 5001, ..jammed }), 8);
+    assert_eq!(of_reading(&Reading { amc: 0, ..jammed }), 8);
+    assert_eq!(of_reading(&Reading { irrig: 1_000_001, ..jammed }), 8);
+    let head = |head| of_reading(&Reading { head, ..jammed });
+    assert_eq!([0x7fc0_0000, 0x7149_f2ca].map(head), [17, 17]);
+}
+
+/// The days after a jammed one are gaps until a corrected reading, or a void, has its count.
+#[test]
+fn a_jammed_count_stays_open() {
+    let site = card(1, &[1_000_000]);
+    let jammed = Reading { rain: 940_000, ..example() };
+    let (later, notice) = (Reading { count: 1, ..example() }, Void { cell: 0, life: 0, count: 0 });
+    let mend: [fn(&Card, &mut [u32], &Void) -> u32; 2] = [
+        |site, rows, _| step(site, &PLOT, rows, &example()).0,
+        |site, rows, notice| void(site, &PLOT, rows, notice).0,
+    ];
+    for mend in mend {
+        let mut rows = [0; ROW];
+        assert_eq!(step(&site, &PLOT, &mut rows, &jammed), (17, Amounts::default()));
+        assert_eq!(step(&site, &PLOT, &mut rows, &later).0, 7);
+        assert_eq!(rows, [0; ROW]);
+        assert_eq!(mend(&site, &mut rows, &notice), 0);
+        assert_eq!(step(&site, &PLOT, &mut rows, &jammed).0, 6);
+        assert_eq!(step(&site, &PLOT, &mut rows, &later).0, 0);
+    }
 }
 
 #[test]
@@ -164,6 +203,8 @@ fn the_order_of_the_checks() {
     assert_eq!(number(&site, &soil, &rows, &reading), 10);
     reading.head = 0x7fc0_0000;
     assert_eq!(number(&site, &soil, &rows, &reading), 9);
+    reading.rain = 1_000_000;
+    assert_eq!(number(&site, &soil, &rows, &reading), 17);
     reading.amc = 0;
     assert_eq!(number(&site, &soil, &rows, &reading), 8);
     reading.count = 8;

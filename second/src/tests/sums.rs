@@ -29,9 +29,9 @@ fn flooded() -> Reading {
     Reading { head: 0x4128_0000, ..example() }
 }
 
-/// The most that a step adds: all of two metres runs off, and a table 20 km above the top drains whole.
+/// The most that a step adds: all of 1.6 metres runs off, and a table 20 km above the top drains whole.
 fn deluge() -> (Reading, [i64; 5]) {
-    let reading = Reading { rain: 1_000_000, irrig: 1_000_000, head: 0x461c_4000, ..example() };
+    let reading = Reading { rain: 600_000, irrig: 1_000_000, head: 0x461c_4000, ..example() };
     (reading, [-10_000_000_000, 1, 1, 1_000_000, 1])
 }
 
@@ -69,7 +69,7 @@ fn a_step_adds_its_runoff_and_its_drain() {
     let dry = Reading { rain: 0, ..example() };
     assert_eq!(stepped(sums(7, 9), &dry, &PLOT), (0, sums(7, 9)));
     let (most, soil) = deluge();
-    assert_eq!(stepped(sums(0, 0), &most, &soil), (0, sums(2_000_000, 20_000_000_000)));
+    assert_eq!(stepped(sums(0, 0), &most, &soil), (0, sums(1_600_000, 20_000_000_000)));
 }
 
 /// Both sides of the place where the low number overflows into the high one.
@@ -85,7 +85,7 @@ fn carries() {
     let (most, soil) = deluge();
     let mut after = row_with(sums(end - 1, end - 1));
     assert_eq!(step(&card(1, &[]), &soil, &mut after, &most).0, 0);
-    assert_eq!(after[32..], [1, 1_999_999, 5, 2_820_130_815]);
+    assert_eq!(after[32..], [1, 1_599_999, 5, 2_820_130_815]);
 }
 
 #[test]
@@ -113,6 +113,7 @@ fn number_15_is_the_last_of_all_checks() {
     assert_eq!(of(flooded()), 15);
     assert_eq!(of(Reading { head: 0x7149_f2ca, ..flooded() }), 10);
     assert_eq!(of(Reading { head: 0x7fc0_0000, ..flooded() }), 9);
+    assert_eq!(of(Reading { rain: 600_001, ..flooded() }), 17);
     assert_eq!(of(Reading { amc: 0, ..flooded() }), 8);
     assert_eq!(of(Reading { count: 1, ..flooded() }), 7);
     assert_eq!(of(Reading { cell: 1, ..flooded() }), 3);
