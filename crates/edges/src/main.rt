@@ -1,4 +1,6 @@
 // Runs the cases of document 01 that are not proved: its unstarred edges, and both sides of each refusal number; for [1], storms on dry and on wet ground; for [2], the delay under 30 depths; for [3], voids; for [5], shares; for [7], a jammed bucket.
+#![tactic(auto)]
+
 mod card_texts;
 mod cards;
 mod delays;

@@ -1,4 +1,6 @@
 // Numbers and lines as text: a line is a form, read by one loop and written by one.
+#![tactic(auto)]
+
 mod decimal;
 mod hex;
 pub mod keys;

@@ -1,4 +1,6 @@
 // The static library of a gateway: the calls that a host in C or Rust makes. include/waterbook.h says what each number means.
+#![tactic(auto)]
+
 ghost use Rattle.std.specs.Prelude.{◌≡◌, true, length};
 ghost use Rattle.gateway.specs.Calls.{Enters, Steps, Voids, Clears, Collects, Grows, Shrinks, Adds, ReadsCard, ReadsReading, ReadsVoid, WritesCard, WritesReading, WritesVoid, WritesAnswer, WritesSheet};
 ghost use Rattle.journal.specs.Book.{BookGives};

@@ -1,3 +1,5 @@
+#![tactic(auto)]
+
 ghost use Rattle.std.specs.Prelude.{◌≡◌, ◌/◌, ◌^◌, ◌<◌};
 ghost use Rattle.head.specs.Level.{floor_div, level_um};
 ghost use Rattle.head.specs.Class.{class_of};

@@ -1,4 +1,6 @@
 // The journal: everything that the program prints for its input.
+#![tactic(auto)]
+
 ghost use Rattle.std.specs.Prelude.{◌≡◌, ◌+◌, ◌≤◌, ◌<◌, ◌^◌, leb, length};
 ghost use Rattle.std.proofs.lemmas.List.Edits.{sets};
 ghost use Rattle.journal.specs.Book.{cleared_text, room_for, BookGives};

@@ -1,4 +1,6 @@
 // The static library of a node: the calls that a host in C or Rust makes of an outbox. include/outbox.h says what each number means.
+#![tactic(auto)]
+
 ghost use Rattle.std.specs.Prelude.{◌≡◌, true, length};
 ghost use Rattle.node.specs.Calls.{GivesBox, Freshens, Adds, Replaces, Acknowledges, Swaps, Offers};
 

@@ -1,4 +1,6 @@
 // Runs both sides of each number that an outbox gives [4]: 23, 14 and 13, what it says when it is empty, and what an acknowledgement removes.
+#![tactic(auto)]
+
 mod adds;
 mod forms;
 mod hears;

@@ -1,4 +1,6 @@
 // One cell's outbox, the node's end of the link: the entries that it has not learnt to be heard.
+#![tactic(auto)]
+
 ghost use Rattle.std.specs.Prelude.{◌≡◌};
 ghost use Rattle.outbox.specs.Outbox.{fresh_of, offer_of, is_next, added_of, replaced_of, acknowledged_of, swapped_of};
 

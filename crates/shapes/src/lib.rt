@@ -1,4 +1,6 @@
 // The records that both static libraries hand over as rows of numbers, there and back: a reading and a notice.
+#![tactic(auto)]
+
 ghost use Rattle.std.specs.Prelude.{◌≡◌, length};
 ghost use Rattle.shapes.specs.Shapes.{reading_from, reading_numbers, notice_from, notice_numbers};
 

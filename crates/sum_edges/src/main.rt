@@ -1,4 +1,6 @@
 // Runs both sides of each number that came with the sums of a row [6]: 15 and 16, what 2 and 5 ask of the longer rows, what collecting gives, and rows moved over and back.
+#![tactic(auto)]
+
 mod carries;
 mod collects;
 mod days;

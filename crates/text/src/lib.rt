@@ -1,4 +1,6 @@
 // Cards, readings, voids, answers and the sheet as text: one text each.
+#![tactic(auto)]
+
 ghost use Rattle.std.specs.Prelude.{[], ◌∷◌, ◌≤◌, length};
 ghost use Rattle.cell.specs.Refusals.{malformed};
 ghost use Rattle.form.specs.Form.{marks, form_text};

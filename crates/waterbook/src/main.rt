@@ -1,4 +1,6 @@
 // Reads a journal from standard input and prints its book.
+#![tactic(auto)]
+
 ghost use Rattle.std.specs.Prelude.{◌≡◌, length};
 
 // Room for the longest journal, and for the byte by which one is too long.
