@@ -12,4 +12,4 @@ returns-then-n-unsaid c =
 
 pub returns : goal.returns
 returns c =
-    to_z_pos w64 {n = c.args.n} (omega arith) in rw (text_some c.args.f.now _ _ c.if-n-unsaid.false) (rw z at c.form_len.ensures)
+    let z = to_z_pos w64 {n = c.args.n} (omega arith) in rw (text_some c.args.f.now _ _ c.if-n-unsaid.false) (rw z at c.form_len.ensures)

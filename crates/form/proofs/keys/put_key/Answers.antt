@@ -12,8 +12,8 @@ returns-then-n-unsaid c =
 
 pub put_form-requires : goal.put_form-requires
 put_form-requires c =
-    to_z_pos w64 {n = c.args.n} (omega arith) in (omega (arith, c.requires.0), rw (z, ← text_some c.args.f.now c.args.unsaid c.args.n c.if-n-unsaid.false) c.requires.1)
+    let z = to_z_pos w64 {n = c.args.n} (omega arith) in (omega (arith, c.requires.0), rw (z, ← text_some c.args.f.now c.args.unsaid c.args.n c.if-n-unsaid.false) c.requires.1)
 
 pub returns : goal.returns
 returns c =
-    to_z_pos w64 {n = c.args.n} (omega arith) in rw (text_some c.args.f.now _ _ c.if-n-unsaid.false) (rw z at c.put_form.ensures)
+    let z = to_z_pos w64 {n = c.args.n} (omega arith) in rw (text_some c.args.f.now _ _ c.if-n-unsaid.false) (rw z at c.put_form.ensures)

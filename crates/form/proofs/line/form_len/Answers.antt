@@ -42,8 +42,8 @@ loop-k-preserved c =
     let no-m : is_mark (get_or c.args.f.now c.loop-k.k 0) ≡ false = sym c.is_mark.ensures ∙ c.if-is_mark.false in
     let marks-l : marks (drop c.loop-k.k c.args.f.now) ≡ marks (drop (c.loop-k.k + 1) c.args.f.now) = marks_lit c.args.f.now c.loop-k.k _ c.loop-k-test.true refl no-m in
     let text-l : form_text (drop c.loop-k.k c.args.f.now) (drop c.loop-k.j c.args.vals.now) ≡ get_or c.args.f.now c.loop-k.k 0 ∷ form_text (drop (c.loop-k.k + 1) c.args.f.now) (drop c.loop-k.j c.args.vals.now) = text_lit c.args.f.now c.loop-k.k _ c.loop-k-test.true refl (drop c.loop-k.j c.args.vals.now) no-m in
-    ap length text-l in omega (arith, marks-l)
+    let l = ap length text-l in omega (arith, marks-l)
 
 pub returns : goal.returns
 returns c =
-    ap length (text_end c.args.f.now (drop c.loop-k.j c.args.vals.now) c.loop-k.k c.loop-k-test.false) in omega arith
+    let l = ap length (text_end c.args.f.now (drop c.loop-k.j c.args.vals.now) c.loop-k.k c.loop-k-test.false) in omega arith

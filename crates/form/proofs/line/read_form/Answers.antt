@@ -37,13 +37,13 @@ loop-k-preserved-in-Got c =
 pub returns-in-Not : goal.returns-in-Not
 returns-in-Not c =
     let is_m : is_mark (get_or c.args.f.now c.loop-k.k 0) ≡ true = sym c.is_mark.ensures ∙ c.if-is_mark.true in
-    form_not _ _ _ _ _ c.loop-k-test.true refl is_m (sym c.value.ensures ∙ c.in-Not.is) in (sym (c.loop-k.invariant.0 ∙ ap taken_of e), sym (c.loop-k.invariant.1 ∙ ap (λ (o : Out). sets c.loop-k.vals c.loop-k.j o.vals) e))
+    let e = form_not _ _ _ _ _ c.loop-k-test.true refl is_m (sym c.value.ensures ∙ c.in-Not.is) in (sym (c.loop-k.invariant.0 ∙ ap taken_of e), sym (c.loop-k.invariant.1 ∙ ap (λ (o : Out). sets c.loop-k.vals c.loop-k.j o.vals) e))
 
 pub returns-then-byte_at-wide : goal.returns-then-byte_at-wide
 returns-then-byte_at-wide c =
     let no-m : is_mark (get_or c.args.f.now c.loop-k.k 0) ≡ false = sym c.is_mark.ensures ∙ c.if-is_mark.false in
     let other : byte_at c.args.s.now c.loop-k.at ≡ get_or c.args.f.now c.loop-k.k 0 → ⊥ = omega arith in
-    form_other _ _ _ _ _ c.loop-k-test.true refl no-m other in (sym (c.loop-k.invariant.0 ∙ ap taken_of e), sym (c.loop-k.invariant.1 ∙ ap (λ (o : Out). sets c.loop-k.vals c.loop-k.j o.vals) e))
+    let e = form_other _ _ _ _ _ c.loop-k-test.true refl no-m other in (sym (c.loop-k.invariant.0 ∙ ap taken_of e), sym (c.loop-k.invariant.1 ∙ ap (λ (o : Out). sets c.loop-k.vals c.loop-k.j o.vals) e))
 
 pub overflow_add-at : goal.overflow_add-at
 overflow_add-at c =
@@ -64,4 +64,4 @@ loop-k-preserved c =
 
 pub returns : goal.returns
 returns c =
-    form_end _ _ _ _ c.loop-k-test.false in (sym (c.loop-k.invariant.0 ∙ ap taken_of e), sym (c.loop-k.invariant.1 ∙ ap (λ (o : Out). sets c.loop-k.vals c.loop-k.j o.vals) e))
+    let e = form_end _ _ _ _ c.loop-k-test.false in (sym (c.loop-k.invariant.0 ∙ ap taken_of e), sym (c.loop-k.invariant.1 ∙ ap (λ (o : Out). sets c.loop-k.vals c.loop-k.j o.vals) e))

@@ -21,7 +21,7 @@ pub loop-k-preserved : goal.loop-k-preserved
 loop-k-preserved c =
     (
   past_turn c.args.s.now c.args.f.now c.args.from c.args.n c.loop-k.at c.loop-k.k c.loop-k.invariant.0 _ c.loop-k-test.true c.read_form-t.ensures.0 c.if-ok.true,
-  c.read_form-t.auto.1.1.1.0 ∙ c.loop-k.invariant.1,
+  c.read_form-t.auto.vals ∙ c.loop-k.invariant.1,
 )
 
 pub returns-else-ok : goal.returns-else-ok

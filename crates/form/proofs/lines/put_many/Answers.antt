@@ -25,7 +25,7 @@ loop-k-smaller c =
 
 pub loop-k-preserved : goal.loop-k-preserved
 loop-k-preserved c =
-    put_turn c.args.f.now c.args.w c.args.n c.args.vals.now c.args.first c.args.buf.now c.args.from c.loop-k.buf c.loop-k.at c.loop-k.j c.loop-k.k c.loop-k.invariant _ _ c.loop-k-test.true c.requires.0 c.put_form-at.ensures.0 c.put_form-at.ensures.1 c.put_form-at.auto.1.1.1.0
+    put_turn c.args.f.now c.args.w c.args.n c.args.vals.now c.args.first c.args.buf.now c.args.from c.loop-k.buf c.loop-k.at c.loop-k.j c.loop-k.k c.loop-k.invariant _ _ c.loop-k-test.true c.requires.0 c.put_form-at.ensures.0 c.put_form-at.ensures.1 c.put_form-at.auto.buf
 
 pub shape_of-buf : goal.shape_of-buf
 shape_of-buf c =

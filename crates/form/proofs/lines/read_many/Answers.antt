@@ -22,11 +22,11 @@ loop-k-smaller c =
 
 pub loop-k-preserved : goal.loop-k-preserved
 loop-k-preserved c =
-    turn c.args.s.now c.args.f.now c.args.from c.args.w c.args.n c.args.vals.now c.args.first c.loop-k.vals c.loop-k.at c.loop-k.j c.loop-k.k c.loop-k.invariant _ _ c.loop-k-test.true c.requires.0 c.read_form-t.ensures.0 c.read_form-t.ensures.1 c.read_form-t.auto.1.1.1.0 c.if-ok.true
+    turn c.args.s.now c.args.f.now c.args.from c.args.w c.args.n c.args.vals.now c.args.first c.loop-k.vals c.loop-k.at c.loop-k.j c.loop-k.k c.loop-k.invariant _ _ c.loop-k-test.true c.requires.0 c.read_form-t.ensures.0 c.read_form-t.ensures.1 c.read_form-t.auto.vals c.if-ok.true
 
 pub shape_of-vals-else-ok : goal.shape_of-vals-else-ok
 shape_of-vals-else-ok c =
-    c.read_form-t.auto.1.1.1.0 ∙ c.loop-k.invariant.same
+    c.read_form-t.auto.vals ∙ c.loop-k.invariant.same
 
 pub returns-else-ok : goal.returns-else-ok
 returns-else-ok c =

@@ -8,7 +8,7 @@ use Rattle.form.proofs.value.down.Goals as goal
 
 pub minus-requires : goal.minus-requires
 minus-requires c =
-    rw c.in-Value.is at c.requires in omega arith
+    let g = rw c.in-Value.is at c.requires in omega arith
 
 pub returns-else-v-eq0 : goal.returns-else-v-eq0
 returns-else-v-eq0 c =

@@ -26,7 +26,7 @@ put_dec-requires c =
 
 pub shape_of-buf-then-negative : goal.shape_of-buf-then-negative
 shape_of-buf-then-negative c =
-    c.put_dec.auto.1.0 ∙ simp length-set
+    c.put_dec.auto.buf ∙ simp length-set
 
 pub returns-then-negative : goal.returns-then-negative
 returns-then-negative c =

@@ -7,7 +7,7 @@ use Rattle.form.proofs.value.up.Goals as goal
 
 pub plus-requires : goal.plus-requires
 plus-requires c =
-    rw c.in-Value.is at c.requires in omega arith
+    let g = rw c.in-Value.is at c.requires in omega arith
 
 pub returns-in-Value : goal.returns-in-Value
 returns-in-Value c =

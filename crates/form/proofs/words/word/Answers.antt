@@ -10,8 +10,8 @@ returns-then-negative c =
 
 pub returns-then-n-gt4294967295 : goal.returns-then-n-gt4294967295
 returns-then-n-gt4294967295 c =
-    (rw (to_z-of_z c.ranges.z) at c.size-n.ensures) in word_big c.args.z (omega arith)
+    let e = (rw (to_z-of_z c.ranges.z) at c.size-n.ensures) in word_big c.args.z (omega arith)
 
 pub returns : goal.returns
 returns c =
-    (rw (to_z-of_z c.ranges.z) at c.size-n.ensures) in e ∙ word_small c.args.z (sym (rw (to_z-of_z c.ranges.z) at c.negative.ensures) ∙ c.if-negative.false) (omega arith)
+    let e = (rw (to_z-of_z c.ranges.z) at c.size-n.ensures) in e ∙ word_small c.args.z (sym (rw (to_z-of_z c.ranges.z) at c.negative.ensures) ∙ c.if-negative.false) (omega arith)
