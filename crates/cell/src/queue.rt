@@ -7,7 +7,7 @@ use crate::Water;
 use crate::ranges::less;
 
 // What leaves the queue in a step: slot 1 by the shift, and what the plants draw.
-#[derive(Drop)]
+#[derive(Clone, Copy)]
 pub struct Pulled {
     pub release: Water,
     pub drawn: Water,

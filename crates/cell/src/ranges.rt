@@ -8,7 +8,7 @@ use crate::{Card, Reading, sums};
 use head::Height;
 
 // The soil numbers of a cell, each in its range.
-#[derive(Drop)]
+#[derive(Clone, Copy)]
 pub struct Soil {
     pub top: Height,
     pub etdepth: u64,

@@ -67,7 +67,7 @@ fn on_line(listed: [u8; 21], cn: u64) -> u64
 pub fn curve(cn: u64, amc: u32) -> u64
     requires { (1 ≤ cn) × (cn ≤ 100) }
     ensures value { result ≡ curve_of cn amc }
-    ensures lower_bound { (1 ≤ result) × (result ≤ 100) }
+    ensures in_range { (1 ≤ result) × (result ≤ 100) }
 {
     if amc == 1 {
         at_least_one(on_line(DRY_GROUND, cn))

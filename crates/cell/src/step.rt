@@ -12,7 +12,7 @@ use crate::{
 };
 
 // What becomes of the day's water, whatever waits in the queue.
-#[derive(Drop)]
+#[derive(Clone, Copy)]
 pub struct Wetting {
     pub delay: usize,
     pub runoff: Water,
@@ -23,7 +23,7 @@ pub struct Wetting {
 }
 
 // What the draw leaves to settle.
-#[derive(Drop)]
+#[derive(Clone, Copy)]
 pub struct Settled {
     pub etsat: Water,
     pub stored: Water,
@@ -77,10 +77,10 @@ fn settle(soil: Soil, r: Reading, d: Depth, w: Wetting, p: Pulled) -> Settled
 
 // Shift, compute, draw, deposit, on the waiting queue.
 fn turn(slots: &mut [u32], card: Card, soil: Soil, r: Reading, d: Depth, w: Wetting) -> Amounts
-    requires fact_1 { Checked card soil r d }
-    requires fact_2 { length slots.old ≡ card.delays }
-    requires fact_3 { SlotsIn card.delays slots.old }
-    requires fact_4 { w ≡ wetting_of card soil r d }
+    requires checked { Checked card soil r d }
+    requires slots_used { length slots.old ≡ card.delays }
+    requires slots_in { SlotsIn card.delays slots.old }
+    requires wetting { w ≡ wetting_of card soil r d }
     ensures { (result ≡ step_amounts card soil r d slots.old) × (slots.new ≡ queue_after card soil r d slots.old) }
 {
     let lack = w.lack;
@@ -121,9 +121,9 @@ fn gathered(r: Reading, w: Wetting, s: Settled, p: Pulled, left: Water) -> Amoun
 
 // A row moved on by an accepted step, but for its sums: the queue is the part of it after life and next count.
 fn advance(card: Card, soil: Soil, r: Reading, d: Depth, w: Wetting, row: &mut [u32]) -> Amounts
-    requires fact_1 { Checked card soil r d }
-    requires fact_2 { row_ok card row.old ≡ true }
-    requires fact_3 { w ≡ wetting_of card soil r d }
+    requires checked { Checked card soil r d }
+    requires row_fits { row_ok card row.old ≡ true }
+    requires wetting { w ≡ wetting_of card soil r d }
     ensures { (result ≡ step_amounts card soil r d (queue_of card.delays row.old)) × (row.new ≡ row_moved card soil (Entry.Reading r) d row.old) }
 {
     let end = 2 + (card.delays as usize);
@@ -135,8 +135,8 @@ fn advance(card: Card, soil: Soil, r: Reading, d: Depth, w: Wetting, row: &mut [
 
 // 15, then one accepted step of a row. Nothing is written before 15 is passed.
 pub fn accept(card: Card, soil: Soil, r: Reading, d: Depth, row: &mut [u32]) -> Answer
-    requires fact_1 { Checked card soil r d }
-    requires fact_2 { row_ok card row.old ≡ true }
+    requires checked { Checked card soil r d }
+    requires row_fits { row_ok card row.old ≡ true }
     ensures { AcceptGives card soil r d row.old result row.new }
 {
     let w = wet(card, soil, r, d);

@@ -4,7 +4,7 @@ ghost use Rattle.std.proofs.lemmas.List.Edits.{sets};
 ghost use Rattle.form.specs.Dec.{dec, num_at, digit_of};
 
 // What reading a number finds: its value and the place after it, or nothing well formed.
-#[derive(Drop)]
+#[derive(Clone, Copy)]
 pub enum Num {
     Value(u64, usize),
     Bad,

@@ -8,7 +8,7 @@ use crate::line::{form_len, put_form, read_form};
 use crate::words::word_at;
 
 // Whether the key is well said or not said, the place after it, and its value.
-#[derive(Drop)]
+#[derive(Clone, Copy)]
 pub struct Key {
     pub ok: bool,
     pub next: usize,

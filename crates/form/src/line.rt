@@ -7,7 +7,7 @@ use crate::value::{Val, is_mark, put_value, value, value_fits, value_len, wide};
 use crate::words::byte_at;
 
 // Whether a form stood at a place, and the place after it.
-#[derive(Drop)]
+#[derive(Clone, Copy)]
 pub struct Taken {
     pub ok: bool,
     pub next: usize,

@@ -7,7 +7,7 @@ ghost use Rattle.form.specs.Many.{many_at, stood_of, rows_text, many_fit};
 use crate::line::{form_fits, form_len, put_form, read_form};
 
 // Whether a form stood n times, the place after it, and how often it stood.
-#[derive(Drop)]
+#[derive(Clone, Copy)]
 pub struct Stood {
     pub ok: bool,
     pub next: usize,

@@ -8,7 +8,7 @@ use crate::hex::{hex_number, put_hex};
 use crate::words::{byte_at, negative, size};
 
 // What reading a value finds.
-#[derive(Drop)]
+#[derive(Clone, Copy)]
 pub enum Val {
     Got(i64, usize),
     Not,

@@ -6,7 +6,7 @@ ghost use Rattle.head.specs.Class.{class_of};
 ghost use Rattle.head.specs.Pattern.{pattern_of, carried_of};
 
 // What a head's float means.
-#[derive(Drop)]
+#[derive(Clone, Copy)]
 pub enum Head {
     Level(f32),
     Dry,
@@ -15,11 +15,11 @@ pub enum Head {
 }
 
 // A height of the water table, in µm.
-#[derive(Drop)]
+#[derive(Clone, Copy)]
 pub struct Height(pub i64);
 
 // A head's float, and beside it the bits of a NaN, which the float does not keep.
-#[derive(Drop)]
+#[derive(Clone, Copy)]
 pub struct Carried {
     pub value: f32,
     pub nan: u32,

@@ -10,13 +10,13 @@ mod form;
 mod places;
 
 // Room for one entry.
-#[derive(Drop)]
+#[derive(Clone, Copy)]
 pub struct Place {
     pub entry: Entry,
 }
 
 // The entries held stand first, the oldest of them first of all, with counts up to `next`; the room behind them is zero.
-#[derive(Drop)]
+#[derive(Clone, Copy)]
 pub struct Outbox {
     pub cell: u32,
     pub life: u32,
@@ -26,20 +26,20 @@ pub struct Outbox {
 }
 
 // An outbox handed back with its number: 0, or a refusal and the outbox as it came.
-#[derive(Drop)]
+#[derive(Clone, Copy)]
 pub struct Given {
     pub outbox: Outbox,
     pub number: u32,
 }
 
-#[derive(Drop)]
+#[derive(Clone, Copy)]
 pub enum Offered {
     Oldest(Entry),
     Empty,
     BadForm,
 }
 
-#[derive(Drop)]
+#[derive(Clone, Copy)]
 pub struct Replaced {
     pub outbox: Outbox,
     pub number: u32,

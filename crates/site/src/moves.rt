@@ -8,8 +8,8 @@ use cell::Card;
 
 // The number at place j of a row that is cut anew.
 fn number_at(row: &[u32], p: usize, out: usize, more: usize, j: usize) -> u32
-    requires fact_1 { Cut (length row.now) p out more }
-    requires fact_2 { j < width_after (length row.now) out more }
+    requires cut { Cut (length row.now) p out more }
+    requires inside { j < width_after (length row.now) out more }
     ensures { result ≡ get_or (recut p out more row.now) j 0 }
 {
     if j < p {
@@ -23,8 +23,8 @@ fn number_at(row: &[u32], p: usize, out: usize, more: usize, j: usize) -> u32
 
 // One row, from its old form into its new one.
 fn recut_row(from: &[u32], to: &mut [u32], p: usize, out: usize, more: usize)
-    requires fact_1 { Cut (length from.now) p out more }
-    requires fact_2 { length to.old ≡ width_after (length from.now) out more }
+    requires cut { Cut (length from.now) p out more }
+    requires room { length to.old ≡ width_after (length from.now) out more }
     ensures { to.new ≡ recut p out more from.now }
 {
     let mut j = 0;
@@ -36,8 +36,8 @@ fn recut_row(from: &[u32], to: &mut [u32], p: usize, out: usize, more: usize)
 
 // Every row of a slice, from its old form into its new one.
 fn recut_all(from: &[u32], to: &mut [u32], n: usize, w: usize, p: usize, out: usize, more: usize)
-    requires fact_1 { Cut w p out more }
-    requires fact_2 { (n ≤ 256) × (length from.now ≡ w * n) × (length to.old ≡ width_after w out more * n) }
+    requires cut { Cut w p out more }
+    requires rooms { (n ≤ 256) × (length from.now ≡ w * n) × (length to.old ≡ width_after w out more * n) }
     ensures { to.new ≡ recut_all n w p out more from.now }
 {
     let v = w - out + more;
@@ -53,7 +53,7 @@ fn recut_all(from: &[u32], to: &mut [u32], n: usize, w: usize, p: usize, out: us
 }
 
 // What a look at every row tells: whether all are in range, and whether no sum holds anything.
-#[derive(Drop)]
+#[derive(Clone, Copy)]
 pub struct Looked {
     pub in_range: bool,
     pub bare: bool,
@@ -61,8 +61,8 @@ pub struct Looked {
 
 // Every row of w numbers, looked at in order.
 fn look(card: Card, rows: &[u32], w: usize) -> Looked
-    requires fact_1 { card_ok card ≡ true }
-    requires fact_2 { (w ≤ 1000) × (length rows.now ≡ w * card.cells) }
+    requires card_fits { card_ok card ≡ true }
+    requires rows_fit { (w ≤ 1000) × (length rows.now ≡ w * card.cells) }
     ensures { Looks card rows.now w result }
 {
     let n = card.cells as usize;

@@ -24,7 +24,7 @@ const UNSAID_SHARE: u32 = 20;
 const SOIL: [u8; 37] = *b"top=$ etdepth=# vadpor=# leak=# cn=#\n";
 
 // What reading a card gives: its number, the bytes taken, the malformed line, the card.
-#[derive(Drop)]
+#[derive(Clone, Copy)]
 pub struct CardRead {
     pub number: u32,
     pub taken: usize,
@@ -33,7 +33,7 @@ pub struct CardRead {
 }
 
 // The first line's two counts.
-#[derive(Drop)]
+#[derive(Clone, Copy)]
 pub struct Counts {
     pub ok: bool,
     pub next: usize,
@@ -94,7 +94,7 @@ fn card_counts(s: &[u8]) -> Counts
 }
 
 // [5] The rest of the first line: the share, and the place after the line's end.
-#[derive(Drop)]
+#[derive(Clone, Copy)]
 pub struct Tail {
     pub ok: bool,
     pub next: usize,

@@ -6,7 +6,7 @@ use crate::{reading, void};
 use cell::Entry;
 
 // What reading an entry gives: its number, the bytes taken, the malformed line, the entry.
-#[derive(Drop)]
+#[derive(Clone, Copy)]
 pub struct EntryRead {
     pub number: u32,
     pub taken: usize,

@@ -15,7 +15,7 @@ pub mod reading;
 pub mod void;
 
 // What writing gives: its number, and the length of the text.
-#[derive(Drop)]
+#[derive(Clone, Copy)]
 pub struct Written {
     pub number: u32,
     pub len: usize,

@@ -16,7 +16,7 @@ const READING: [u8; 73] =
     *b"cell=# life=# count=# rain=# irrig=# septic=# etmin=# pet=# amc=# head=%\n";
 
 // What reading a reading gives: its number, the bytes taken, the malformed line, the reading.
-#[derive(Drop)]
+#[derive(Clone, Copy)]
 pub struct ReadingRead {
     pub number: u32,
     pub taken: usize,

@@ -14,7 +14,7 @@ use form::words::word_at;
 const VOID: [u8; 27] = *b"void cell=# life=# count=#\n";
 
 // What reading a void gives: its number, the bytes taken, the malformed line, the notice.
-#[derive(Drop)]
+#[derive(Clone, Copy)]
 pub struct VoidRead {
     pub number: u32,
     pub taken: usize,

@@ -1,0 +1,7 @@
+use Rattle.cell.specs.Sums.{no_sums}
+use Rattle.cell.proofs.is_empty.Goals as goal
+
+pub returns : goal.returns
+unfolding no_sums
+returns c =
+    rw (c.sum_of-runoff.ensures, c.sum_of-drain.ensures)
