@@ -43,6 +43,7 @@ module _ {A : Type 0} (entry : A → Entry) (cell life : ℕ) where
 
   -- what stands there has one of the counts, and each count stands there
   pub counted_in : (c : ℕ) (xs : List A) (x : A) → Counted c xs → Among x xs → (i : ℕ) × (i < length xs) × (notice_of (entry x) ≡ notice cell life (c + i))
+  counted_in c [] x h e = elim e [ ]
   counted_in c (y ∷ xs) x h (inl e) = (0, omega arith, rw (e, add-zero c) h.0)
   counted_in c (y ∷ xs) x h (inr m) =
       let r = counted_in (suc c) xs x h.1 m in

@@ -1,0 +1,7 @@
+use Rattle.text.specs.Voids.{void_text}
+use Rattle.text.proofs.void.write.Goals as goal
+
+pub returns : goal.returns
+unfolding void_text
+returns c =
+    rw c.void_values-v.ensures at c.put_line.ensures
