@@ -1,5 +1,5 @@
 -- Lives and counts: each accepted entry follows those before it, and what comes of their sequence alone. Assumes nothing.
-use mathlib.Core.Path.{◌≡◌, refl, sym, ◌∙◌}
+use mathlib.Core.Path.{◌≡◌, refl, sym, ap, ◌∙◌}
 use mathlib.Core.Logic.{◌⊎◌, inl, inr}
 use mathlib.Core.List.{List, [], ◌∷◌}
 use Prim.Native.Nat.{ℕ, ◌+◌, ◌≤◌, ◌<◌}
@@ -69,7 +69,7 @@ none_of_lem (s ∷ h) life l k v = of_other h s l (λ e. omega arith) ∙ none_o
 count_is : (h : History) (s : Step) → InSequence h → Follows s h → s.count ≡ length (counts_in s.life h)
 count_is [] s v e = e
 count_is (last ∷ h) s v (inl e) = rw (of_same h last s.life (sym e.0), e.0) (omega (arith, e.1, count_is h last v.0 v.1))
-count_is (last ∷ h) s v (inr e) = rw (none_of_lem (last ∷ h) last.life s.life e.0 (none_above h last v last.life (omega arith))) e.1
+count_is (last ∷ h) s v (inr e) = e.1 ∙ sym (ap (length {A = ℕ}) (none_of_lem (last ∷ h) last.life s.life e.0 (none_above h last v last.life (omega arith))))
 
 -- a life's counts are 0, 1, 2, .. with no repeat and no gap: the latest first, n - 1, .. , 1, 0
 pub no_repeat_no_gap : (h : History) → InSequence h → (life : ℕ) → counts_in life h ≡ down_from (length (counts_in life h))

@@ -1,0 +1,17 @@
+use Rattle.node.proofs.Turns.{zeros_turn, zeros_end}
+use Prim.Native.Nat.{◌-◌}
+use mathlib.Core.Path.{refl, sym, ◌∙◌}
+use native.Mathlib.Omega.{arith}
+use Rattle.node.proofs.numbers.all_zero.Goals as goal
+
+pub loop-i-init : goal.loop-i-init
+loop-i-init c =
+    (omega arith, refl)
+
+pub loop-i-preserved : goal.loop-i-preserved
+loop-i-preserved c =
+    (omega arith, sym (zeros_turn c.loop-i.ok c.loop-i.i c.args.l.now c.loop-i-test.true) ∙ c.loop-i.invariant.1)
+
+pub returns : goal.returns
+returns c =
+    sym (zeros_end c.loop-i.ok c.loop-i.i c.args.l.now c.loop-i-test.false) ∙ c.loop-i.invariant.1

@@ -1,0 +1,31 @@
+use mathlib.Core.Bool.{not}
+use mathlib.Core.Path.{ap}
+use Rattle.outbox.specs.Laws.{passed, failed}
+use Rattle.node.proofs.Shaped.{box_ill, box_turned, box_given}
+use mathlib.Core.Path.{refl}
+use borrow.Author.Tests.{eq-eqb, ne_eqb}
+use Rattle.node.proofs.outbox_add.Goals as goal
+
+-- `node::outbox_add` meets its contract. Assumes nothing.
+pub returns-then-outbox-ne334 : goal.returns-then-outbox-ne334
+returns-then-outbox-ne334 c =
+    box_ill (rw (ne_eqb _ _ c.if-outbox-ne334.true))
+
+pub returns-then-entry-ne11 : goal.returns-then-entry-ne11
+returns-then-entry-ne11 c =
+    box_ill (rw (eq-eqb _ _ c.if-outbox-ne334.false, ne_eqb _ _ c.if-entry-ne11.true))
+
+pub returns-then-not-is_entry : goal.returns-then-not-is_entry
+returns-then-not-is_entry c =
+    box_ill (rw (eq-eqb _ _ c.if-outbox-ne334.false, eq-eqb _ _ c.if-entry-ne11.false) (failed c.is_entry.ensures (ap not c.if-not-is_entry.true)))
+
+pub returns-then-not-all_entries : goal.returns-then-not-all_entries
+returns-then-not-all_entries c =
+    box_turned refl (rw (eq-eqb _ _ c.if-outbox-ne334.false, eq-eqb _ _ c.if-entry-ne11.false) (passed c.is_entry.ensures (ap not c.if-not-is_entry.false))) (rw (failed c.all_entries.ensures (ap not c.if-not-all_entries.true)))
+
+pub returns : goal.returns
+returns c =
+    box_given
+    (rw (eq-eqb _ _ c.if-outbox-ne334.false, eq-eqb _ _ c.if-entry-ne11.false) (passed c.is_entry.ensures (ap not c.if-not-is_entry.false)))
+    (rw (passed c.all_entries.ensures (ap not c.if-not-all_entries.false)) (rw (c.box_from.ensures, c.entry_from.ensures) at c.add.ensures))
+    c.keep.ensures
