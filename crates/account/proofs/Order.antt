@@ -68,7 +68,10 @@ none_of_lem (s ∷ h) life l k v = of_other h s l (λ e. omega arith) ∙ none_o
 -- a step's count is how many steps of its life came before it
 count_is : (h : History) (s : Step) → InSequence h → Follows s h → s.count ≡ length (counts_in s.life h)
 count_is [] s v e = e
-count_is (last ∷ h) s v (inl e) = rw (of_same h last s.life (sym e.0), e.0) (omega (arith, e.1, count_is h last v.0 v.1))
+count_is (last ∷ h) s v (inl e) =
+    let p = ap (length {A = ℕ}) (of_same h last s.life (sym e.0)) in
+    let q = ap (λ (l : ℕ). length (counts_in l h)) e.0 in
+    omega (arith, e.1, count_is h last v.0 v.1, p, q)
 count_is (last ∷ h) s v (inr e) = e.1 ∙ sym (ap (length {A = ℕ}) (none_of_lem (last ∷ h) last.life s.life e.0 (none_above h last v last.life (omega arith))))
 
 -- a life's counts are 0, 1, 2, .. with no repeat and no gap: the latest first, n - 1, .. , 1, 0

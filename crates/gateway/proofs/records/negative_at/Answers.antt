@@ -1,0 +1,11 @@
+use mathlib.Core.Path.{◌≡◌}
+use mir.Val.{to_z, of_z}
+use mir.Syntax.{w64}
+use lib.ListN.{get_or}
+use lib.IntN.{pos}
+use borrow.Author.Rules.{rules}
+use Rattle.gateway.proofs.records.negative_at.Goals as goal
+
+pub returns : goal.returns
+returns c =
+    let e : to_z w64 (of_z w64 (get_or c.args.l.now c.args.i (pos 0))) ≡ get_or c.args.l.now c.args.i (pos 0) = search rules in rw e at c.negative.ensures

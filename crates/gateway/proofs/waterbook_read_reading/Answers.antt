@@ -1,0 +1,32 @@
+use Rattle.gateway.proofs.Shaped.{line_ill, line_given}
+use Rattle.form.specs.Put.{sets_all}
+use mathlib.Core.List.{[], ◌∷◌}
+use lib.ListN.{length-set}
+use borrow.Author.Tests.{eq-eqb, ne_eqb}
+use mathlib.Core.Path.{sym, ap, ◌∙◌}
+use Rattle.text.specs.declared.reading.ReadingRead.{ReadingRead}
+use Rattle.shapes.specs.Shapes.{reading_numbers}
+use native.Mathlib.Omega.{arith}
+use Rattle.gateway.proofs.waterbook_read_reading.Goals as goal
+
+-- `gateway::waterbook_read_reading` meets its contract. Assumes nothing.
+pub returns-then-reading-ne10 : goal.returns-then-reading-ne10
+returns-then-reading-ne10 c =
+    line_ill (rw (ne_eqb _ _ c.if-reading-ne10.true))
+
+pub returns-then-got-ne2 : goal.returns-then-got-ne2
+returns-then-got-ne2 c =
+    line_ill (rw (eq-eqb _ _ c.if-reading-ne10.false, ne_eqb _ _ c.if-got-ne2.true))
+
+pub bounds-got-1 : goal.bounds-got-1
+bounds-got-1 c =
+    simp length-set (omega (arith, c.if-got-ne2.false))
+
+pub returns : goal.returns
+returns c =
+    line_given
+    (rw (eq-eqb _ _ c.if-reading-ne10.false, eq-eqb _ _ c.if-got-ne2.false))
+    (ap (λ (x : ReadingRead). x.number) c.read-r.ensures)
+    (c.put_reading.ensures ∙ ap (λ (x : ReadingRead). reading_numbers x.reading) c.read-r.ensures)
+    (sets_all c.args.got.now (c.read-r.result.taken ∷ c.read-r.result.line ∷ []) (sym c.if-got-ne2.false)
+    ∙ ap (λ (x : ReadingRead). x.taken ∷ x.line ∷ []) c.read-r.ensures)

@@ -1,0 +1,22 @@
+use Rattle.gateway.proofs.Shaped.{answer_ill, answer_shaped}
+use borrow.Author.Tests.{eq-eqb, ne_eqb}
+use Rattle.gateway.proofs.waterbook_step.Goals as goal
+
+-- `gateway::waterbook_step` meets its contract. Assumes nothing.
+pub returns-then-card-ne33 : goal.returns-then-card-ne33
+returns-then-card-ne33 c =
+    answer_ill (rw (ne_eqb _ _ c.if-card-ne33.true))
+
+pub returns-then-reading-ne10 : goal.returns-then-reading-ne10
+returns-then-reading-ne10 c =
+    answer_ill (rw (eq-eqb _ _ c.if-card-ne33.false, ne_eqb _ _ c.if-reading-ne10.true))
+
+pub returns-then-amounts-ne10 : goal.returns-then-amounts-ne10
+returns-then-amounts-ne10 c =
+    answer_ill (rw (eq-eqb _ _ c.if-card-ne33.false, eq-eqb _ _ c.if-reading-ne10.false, ne_eqb _ _ c.if-amounts-ne10.true))
+
+pub returns : goal.returns
+returns c =
+    answer_shaped
+    (rw (eq-eqb _ _ c.if-card-ne33.false, eq-eqb _ _ c.if-reading-ne10.false, eq-eqb _ _ c.if-amounts-ne10.false))
+    (rw (c.card_from.ensures, c.reading_from.ensures) at c.give.ensures)

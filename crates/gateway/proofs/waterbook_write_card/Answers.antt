@@ -1,0 +1,28 @@
+use Rattle.gateway.proofs.Shaped.{text_ill, text_written}
+use Rattle.form.specs.Put.{sets_all}
+use mathlib.Core.List.{[], ◌∷◌}
+use lib.ListN.{length-set}
+use borrow.Author.Tests.{eq-eqb, ne_eqb}
+use mathlib.Core.Path.{sym}
+use native.Mathlib.Omega.{arith}
+use Rattle.gateway.proofs.waterbook_write_card.Goals as goal
+
+-- `gateway::waterbook_write_card` meets its contract. Assumes nothing.
+pub returns-then-card-ne33 : goal.returns-then-card-ne33
+returns-then-card-ne33 c =
+    text_ill (rw (ne_eqb _ _ c.if-card-ne33.true))
+
+pub returns-then-got-ne2 : goal.returns-then-got-ne2
+returns-then-got-ne2 c =
+    text_ill (rw (eq-eqb _ _ c.if-card-ne33.false, ne_eqb _ _ c.if-got-ne2.true))
+
+pub bounds-got-1 : goal.bounds-got-1
+bounds-got-1 c =
+    simp length-set (omega (arith, c.if-got-ne2.false))
+
+pub returns : goal.returns
+returns c =
+    text_written
+    (rw (eq-eqb _ _ c.if-card-ne33.false, eq-eqb _ _ c.if-got-ne2.false))
+    (rw c.card_from.ensures at c.write-w.ensures)
+    (sets_all c.args.got.now (c.write-w.result.len ∷ 0 ∷ []) (sym c.if-got-ne2.false))
