@@ -82,6 +82,7 @@ module _ {mine : ℕ} {made voids : List Entry} {cell life next held : ℕ} {ps 
           }
 
       either : (p : Place) → Among p ps ⊎ Among p (place e ∷ []) → InPlace (made ++ (e ∷ [])) voids p.entry
+      either p (inr (inr x0)) = elim x0 [ ]
       either p (inl m) = stays_made made (e ∷ []) voids p.entry (v.placed p m)
       either p (inr (inl k)) = rw k new
 

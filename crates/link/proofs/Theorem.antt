@@ -122,6 +122,7 @@ module _ (cell : ℕ) (G : Gateway) (O : Orderly cell G) where
         }
       where
         go : (x : Entry) → Among x s.sent ⊎ Among x (e ∷ []) → InPlace s.made s.voids x
+        go x (inr (inr x3)) = elim x3 [ ]
         go x (inl m) = v.posted x m
         go x (inr (inl k)) = let r = map_among held_entry e (held_of s.box) h in rw (k, r.2) (v.node.placed r.0 r.1)
 
@@ -175,10 +176,12 @@ module _ (cell : ℕ) (G : Gateway) (O : Orderly cell G) where
         sent = record { life = G.life s.row; next = G.next s.row; heard = s.accepted }
 
         go : (a : Ack) → Among a s.acks ⊎ Among a (sent ∷ []) → Heard cell s.made s.voids a.heard a.life a.next
+        go a (inr (inr x0)) = elim x0 [ ]
         go a (inl m) = v.acked a m
         go a (inr (inl k)) = rw k v.now
 
         far : (a : Ack) → Among a s.acks ⊎ Among a (sent ∷ []) → a.next ≤ length (of_life a.life s.accepted)
+        far a (inr (inr x0)) = elim x0 [ ]
         far a (inl m) = v.reached a m
         far a (inr (inl k)) = rw k (omega (arith, v.now.row.present))
 
