@@ -1,7 +1,10 @@
 // Reads a journal from standard input and prints its book.
 #![tactic(auto)]
 
-ghost use Rattle.std.specs.Prelude.{◌≡◌, length};
+ghost use Rattle.std.specs.Prelude.{◌≡◌, ◌≤◌, length, IfOk};
+
+use std::io;
+use std::io::Read;
 
 // Room for the longest journal, and for the byte by which one is too long.
 fn input_room() -> [u8; 65537]
@@ -17,12 +20,28 @@ fn book_room() -> [u8; 327985]
     [0; 327985]
 }
 
-fn main() {
+// Reads until the buffer is full or the input has ended, and returns how many bytes that were.
+fn read_full(from: &mut impl Read, into: &mut [u8]) -> io::Result<usize>
+    ensures { IfOk result (λ n. n ≤ length into.old) }
+{
+    let mut filled = 0;
+    while filled < into.len() {
+        let more = from.read(&mut into[filled..])?;
+        if more == 0 {
+            break;
+        }
+        filled += more;
+    }
+    Ok(filled)
+}
+
+fn main(rt: HostRuntime) -> io::Result<()> {
     let mut input = input_room();
     let mut out = book_room();
-    let n = io::read_full(0, &mut input);
+    let n = read_full(&mut rt.reader(), &mut input)?;
     let m = journal::book(&input[..n], &mut out);
-    if !io::write_all(1, &out[..m]) {
-        io::write_all(2, b"waterbook: the book could not be written\n");
+    if rt.write_all(&out[..m]).is_err() {
+        eprintln!(rt; "waterbook: the book could not be written")?;
     }
+    Ok(())
 }
