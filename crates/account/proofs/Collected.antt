@@ -4,7 +4,6 @@ use mathlib.Core.Bool.{Bool, true, false, cond}
 use mathlib.Core.List.{List, [], ◌∷◌}
 use Prim.Native.Nat.{ℕ, zero, suc, ◌+◌, ◌*◌, ◌≤◌, ◌<◌}
 use native.Mathlib.Omega.{arith}
-use native.Mathlib.Decide.{ℕ_discrete}
 use borrow.Author.Tests.{eqb-true, eqb-false}
 use lib.Dec.{eqb}
 use lib.IntN.{ℤ}
@@ -31,7 +30,7 @@ use Rattle.site.specs.Forms.{grow_number, grown_rows, GrowGives, shrink_number, 
 use Rattle.site.specs.FormLaws.{grow_card, grow_long, grown_length, grown_sum, shrink_card, shrink_long, shrunk_length, shrunk_empty, collect_card, collect_long, collect_length, own_sums, other_kept}
 use Rattle.account.specs.Ledger.{History, sum}
 use Rattle.account.specs.Run.{Call, row_of, step_of, noted}
-use Rattle.account.specs.Keeping.{row_in, Act, Outcome, Went, done, entered, collected, went_over, went_back, history_in, Sum, ran_off, drained, place_of, amount_of, got_of, most_of, held_in, collected_of, safe_steps}
+use Rattle.account.specs.Keeping.{Act, Outcome, Went, done, entered, collected, went_over, went_back, history_in, Sum, ran_off, drained, place_of, amount_of, got_of, most_of, held_in, collected_of, safe_steps}
 use Rattle.account.proofs.Keeping.{plain_row, sums_row, cleared_in, along_any}
 
 module _ (card : Card) (p : ℕ) (h : p < card.cells) (k : Sum) where

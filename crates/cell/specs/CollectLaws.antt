@@ -1,12 +1,11 @@
 -- [6] Collecting, by its checks. Assumes nothing.
 use Rattle.std.specs.Prelude.{◌≡◌, true, false, cond, List, ℕ}
-use Rattle.std.proofs.Common.{sym}
 use Rattle.cell.specs.declared.Card.{Card}
 use Rattle.cell.specs.declared.Water.{Water}
 use Rattle.cell.specs.Water.{water}
 use Rattle.cell.specs.Ranges.{card_ok, row_ok}
 use Rattle.cell.specs.Sums.{runoff_at, drain_at, sum_of, emptied}
-use Rattle.cell.specs.Collect.{collect_number, collected_by, list_by, CollectGives}
+use Rattle.cell.specs.Collect.{collect_number, CollectGives}
 
 module _ (card : Card) (row : List ℕ) where
   -- under a card in range only 5 is left

@@ -1,5 +1,5 @@
 -- [6] A sum that is put is there, and nothing else of the row changes: not the other sum, life, next count, slots or length. Assumes nothing.
-use Rattle.std.specs.Prelude.{◌≡◌, refl, List, [], ◌∷◌, ℕ, ◌+◌, ◌*◌, ◌/◌, ◌%◌, ◌≤◌, ◌<◌, true, eqb, take, drop, set}
+use Rattle.std.specs.Prelude.{◌≡◌, refl, List, [], ◌∷◌, ℕ, ◌+◌, ◌/◌, ◌%◌, ◌≤◌, ◌<◌, true, eqb, take, drop, set}
 use Rattle.std.proofs.Math.Path.{ap}
 use Rattle.std.proofs.Common.{sym, ◌∙◌, arith, eq-eqb, eqb-true, take-take, get_or-take}
 use Rattle.std.proofs.Math.Bool.{and-eq-true_iff}

@@ -1,6 +1,6 @@
 -- A form is a line's fixed bytes with a mark for each value: '#' (35) a decimal that fits 32 bits, '$' (36) a signed decimal that fits 64 bits, '%' (37) eight
 -- hex digits. One form says both what reading a line finds and what its text is. Definitions only.
-use Rattle.std.specs.Prelude.{ℕ, zero, suc, ◌+◌, ◌≤◌, List, [], ◌∷◌, ◌++◌, Bool, true, false, cond, ◌&&◌, drop, ltb, eqb, ℤ, pos, negsuc, nat_abs}
+use Rattle.std.specs.Prelude.{ℕ, zero, suc, ◌≤◌, List, [], ◌∷◌, ◌++◌, Bool, true, false, cond, ◌&&◌, drop, ltb, eqb, ℤ, pos, negsuc, nat_abs}
 use Rattle.form.specs.Dec.{dec, num_at}
 use Rattle.form.specs.Hex.{hex, hex_at}
 use Rattle.form.specs.declared.decimal.Num.{Num}

@@ -1,5 +1,5 @@
 -- [5] Laws of keys, over any form with one value: a key's text is read back, what is read is its one text, and `unsaid` written out is malformed. Assumes nothing.
-use Rattle.std.specs.Prelude.{◌≡◌, List, [], ◌∷◌, ◌++◌, map, Bool, cond, ℕ, suc, ◌+◌, ◌≤◌, ◌<◌, get_or, take, drop, ℤ, pos, ltb}
+use Rattle.std.specs.Prelude.{◌≡◌, List, [], ◌∷◌, ◌++◌, map, Bool, ℕ, suc, ◌+◌, ◌≤◌, ◌<◌, get_or, take, drop, ℤ, pos}
 use Rattle.std.proofs.Math.Path.{refl, sym}
 use Rattle.std.proofs.Common.{ap, ◌∙◌, append-nil, add-one, arith, drop-drop}
 use Rattle.std.proofs.Math.Bool.{true, false}
@@ -10,7 +10,7 @@ use Rattle.std.proofs.lemmas.List.Edits.{sets}
 use Rattle.std.proofs.Math.Seq.{drop-append_seam}
 use Rattle.std.proofs.Math.Dec.{eqb}
 use borrow.Author.Tests.{lt-ltb, eq-eqb, ne_eqb, eqb-true}
-use Rattle.form.specs.Form.{Out, head_or, byte_at, is_mark, marks, form_at, form_text, taken_of, fits}
+use Rattle.form.specs.Form.{head_or, byte_at, is_mark, marks, form_at, form_text, taken_of, fits}
 use Rattle.form.specs.FormLaws.{form_one, form_back, all_bytes, plain, parted, unword, ok_words, small_oks, small_z, and_i}
 use Rattle.form.specs.Put.{sets_all}
 use Rattle.form.specs.RunLaws.{form_length}

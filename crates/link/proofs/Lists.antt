@@ -3,17 +3,14 @@ use mathlib.Core.Path.{◌≡◌, refl, sym, ap, ◌∙◌}
 use mathlib.Core.Bool.{Bool, true, false, cond}
 use mathlib.Core.Logic.{◌⊎◌, inl, inr}
 use mathlib.Core.List.{List, [], ◌∷◌, ◌++◌, append-nil, map}
-use Prim.Native.Nat.{ℕ, zero, suc, ◌+◌, ◌≤◌, ◌<◌}
-use native.Mathlib.Nat.{add-suc, add-zero}
+use Prim.Native.Nat.{ℕ, zero, suc, ◌≤◌, ◌<◌}
 use native.Mathlib.Omega.{arith}
-use borrow.Author.Tests.{eq-eqb, ne_eqb, eqb-true}
+use borrow.Author.Tests.{eq-eqb, ne_eqb}
 use lib.Dec.{eqb}
 use lib.ListN.{length, take, drop, length-append}
 use Rattle.cell.specs.declared.Entry.{Entry}
-use Rattle.cell.specs.Ranges.{notice_of}
-use Rattle.outbox.specs.Outbox.{notice, void_of}
 use Rattle.outbox.specs.Counts.{Among}
-use Rattle.link.specs.Lists.{life_in, count_in, At, of_life, Holds, FirstPart}
+use Rattle.link.specs.Lists.{life_in, At, of_life, Holds, FirstPart}
 
 -- ---- among, and at a place
 module _ {A : Type 0} (x : A) where

@@ -1,9 +1,8 @@
 -- The node's side: what is known of its outbox, of all that it made, and of the voids that it put in place. Assumes nothing.
-use mathlib.Core.Path.{◌≡◌, refl, sym, ap, ◌∙◌}
+use mathlib.Core.Path.{◌≡◌, refl, ap, ◌∙◌}
 use mathlib.Core.Logic.{◌⊎◌, inl, inr}
 use mathlib.Core.List.{List, [], ◌∷◌, ◌++◌}
-use Prim.Native.Nat.{ℕ, zero, suc, ◌+◌, ◌-◌, ◌≤◌, ◌<◌}
-use native.Mathlib.Nat.{sub-zero}
+use Prim.Native.Nat.{ℕ, ◌+◌, ◌-◌, ◌≤◌, ◌<◌}
 use native.Mathlib.Omega.{arith}
 use lib.ListN.{length, drop, length-append, length-drop}
 use Rattle.cell.specs.declared.Entry.{Entry}
@@ -13,7 +12,7 @@ use Rattle.cell.specs.Ranges.{notice_of}
 use Rattle.outbox.specs.Outbox.{notice, void_of, place}
 use Rattle.outbox.specs.Counts.{Among, held_entry, Counted, counted_more, counted_drop}
 use Rattle.link.specs.Lists.{life_in, count_in, At, of_life, Holds}
-use Rattle.link.proofs.Lists.{among_left, among_right, among_either, among_drop, at_left, at_end_lem, life_append, life_with, life_without, holds_more}
+use Rattle.link.proofs.Lists.{among_right, among_either, among_drop, at_left, at_end_lem, life_append, life_with, life_without, holds_more}
 
 -- an entry stands in the place of its life and count: it is what was made there, or the void put in its place
 pub record InPlace (made voids : List Entry) (e : Entry) : Type 0 where

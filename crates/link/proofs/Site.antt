@@ -1,15 +1,15 @@
 -- [4] THE LINK, at the site as built: a fresh outbox, a cleared row, and any calls of `site::step`. Assumes nothing.
 use mathlib.Core.Path.{◌≡◌, refl, sym, ap, subst, ◌∙◌}
-use mathlib.Core.Bool.{Bool, true, false, ◌&&◌, and-eq-true_iff}
+use mathlib.Core.Bool.{true, false, ◌&&◌, and-eq-true_iff}
 use mathlib.Core.Logic.{◌⊎◌, inl, inr}
 use mathlib.Core.List.{List, [], ◌∷◌}
-use Prim.Native.Nat.{ℕ, ◌+◌, ◌-◌, ◌≤◌, ◌<◌}
+use Prim.Native.Nat.{ℕ, ◌+◌, ◌<◌}
 use native.Mathlib.Decide.{ℕ_discrete}
 use native.Mathlib.Omega.{arith}
 use borrow.Author.Tests.{eqb-true, eq-eqb}
 use lib.Dec.{eqb}
 use lib.IntN.{ℤ}
-use lib.ListN.{length, replicate}
+use lib.ListN.{replicate}
 use Rattle.cell.specs.declared.Amounts.{Amounts}
 use Rattle.cell.specs.declared.Answer.{Answer}
 use Rattle.cell.specs.declared.Answer.TheVariants.{Accepted, Refused}
@@ -29,12 +29,12 @@ use Rattle.account.proofs.Demand3.{void_passes}
 use Rattle.outbox.specs.declared.Offered.TheVariants.{Oldest}
 use Rattle.outbox.specs.declared.Outbox.{Outbox}
 use Rattle.outbox.specs.declared.Place.{Place}
-use Rattle.outbox.specs.Outbox.{notice, void_of, held_of, offer_of, replaced_of, fresh_of, is_next, swapped_of}
+use Rattle.outbox.specs.Outbox.{void_of, held_of, offer_of, replaced_of, fresh_of, is_next, swapped_of}
 use Rattle.outbox.specs.CallLaws.{Reaches}
-use Rattle.outbox.specs.Counts.{Among, held_entry, turn_counts}
+use Rattle.outbox.specs.Counts.{Among}
 use Rattle.outbox.specs.Kept.{InForm, oldest_is, oldest_in, void_offered}
 use Rattle.link.specs.Lists.{life_in, count_in, At, of_life, FirstPart}
-use Rattle.link.specs.Run.{Gateway, Orderly, Moment, Ack, Run, Told, Fate, starts, first, making, learning}
+use Rattle.link.specs.Run.{Orderly, Moment, Ack, Run, Told, Fate, starts, first, making, learning}
 use Rattle.link.specs.Site.{accepts, Given, site_gateway}
 use Rattle.link.proofs.Theorem as link
 

@@ -1,5 +1,5 @@
 -- [4] A worked run of the link, computed over the definitions: readings and a void are heard, and the outbox learns it. Assumes nothing.
-use Rattle.std.specs.Prelude.{◌≡◌, refl, Bool, true, false, ◌&&◌, ◌⊎◌, List, [], ◌∷◌, ◌++◌, map, ℕ, eqb, ℤ, pos, replicate}
+use Rattle.std.specs.Prelude.{◌≡◌, refl, Bool, ◌&&◌, List, [], ◌∷◌, ℕ, eqb, ℤ, pos, replicate}
 use Rattle.std.proofs.Common.{inl, inr}
 use Rattle.std.specs.Float.Ieee.{is_nan, nan_bits, of_bits, to_bits}
 use Rattle.head.specs.Level.{floor_div, usable, floor_um, level_um}
@@ -20,8 +20,7 @@ use Rattle.site.specs.SiteLaws.{gives}
 use Rattle.account.specs.Run.{Call}
 use Rattle.outbox.specs.Outbox as box
 use Rattle.outbox.specs.Outbox.{void_of}
-use Rattle.outbox.specs.Counts.{Among}
-use Rattle.link.specs.Run.{Gateway, Ack, Moment, Run, entries_in, first, making, voiding, sending, hearing, answering, learning, swapping, starts, makes, puts_void, sends, hears, answers, learns, swaps}
+use Rattle.link.specs.Run.{Gateway, Moment, Run, entries_in, first, making, voiding, sending, hearing, answering, learning, swapping, starts, makes, puts_void, sends, hears, answers, learns, swaps}
 use Rattle.link.specs.Site.{accepts, Given, site_gateway}
 
 -- ---- document 01's site of one plot

@@ -1,6 +1,6 @@
 -- The list of those held and the 30 places, there and back: an outbox in its form is the one made of what it holds. Assumes nothing.
 -- `Laws.held_is` is the other way round, with nothing asked.
-use Rattle.std.specs.Prelude.{◌≡◌, refl, true, ◌&&◌, ◌⊎◌, List, [], ◌∷◌, ◌++◌, ℕ, ◌-◌, ◌^◌, ◌≤◌, ◌<◌, eqb, length, take, drop, replicate}
+use Rattle.std.specs.Prelude.{◌≡◌, refl, true, ◌&&◌, List, [], ◌∷◌, ℕ, ◌-◌, ◌^◌, ◌<◌, eqb, length, take, drop, replicate}
 use Rattle.std.proofs.Common.{sym, ap, ◌∙◌, inl, inr, arith, eqb-true, take-append-drop, length-drop, length-take-le}
 use Rattle.std.proofs.Math.Bool.{and-eq-true_iff}
 use Rattle.head.specs.declared.Carried.{Carried}

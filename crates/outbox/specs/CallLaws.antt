@@ -1,7 +1,7 @@
 -- What each call does to the outbox, as lists: what the crates above cite. Assumes nothing.
 use Rattle.std.proofs.Math.Path.{◌≡◌, refl}
-use Rattle.std.proofs.Common.{sym, ap, subst, ◌∙◌}
-use Rattle.std.specs.Prelude.{Bool, ◌&&◌, ◌⊎◌, ℕ, ◌+◌, ◌-◌, ◌≤◌, ◌<◌, leb, eqb, length, take, drop}
+use Rattle.std.proofs.Common.{sym, subst}
+use Rattle.std.specs.Prelude.{Bool, ◌⊎◌, ℕ, ◌+◌, ◌-◌, ◌≤◌, ◌<◌, leb, length, drop}
 use Rattle.std.proofs.Math.Bool.{true, false, cond, and-eq-true_iff}
 use Rattle.std.proofs.Math.Logic.{inl, inr}
 use mathlib.Core.List.{List, [], ◌∷◌, ◌++◌}
@@ -15,7 +15,6 @@ use Rattle.outbox.specs.declared.Outbox.{Outbox}
 use Rattle.outbox.specs.declared.Given.{Given}
 use Rattle.outbox.specs.declared.Offered.{Offered}
 use Rattle.outbox.specs.declared.Offered.TheVariants.{Oldest, Empty, BadForm}
-use Rattle.outbox.specs.declared.Replaced.{Replaced}
 use Rattle.outbox.specs.Outbox.{bad_form, not_next, full, notice, void_of, same, place, held_of, box_of, oldest_of, form_ok, given, unless, fresh_of, oldest, offer_of, is_next, with_entry, added_of, replacing, replaced_of, is_heard, without, acknowledged_of, is_higher, swapped_of}
 use Rattle.outbox.specs.Laws.{same_is, held_is, heard_in}
 

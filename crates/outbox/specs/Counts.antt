@@ -1,16 +1,14 @@
 -- Entries of one cell and life whose counts run on: what the form says of those held, as a list. Assumes nothing.
-use Rattle.std.specs.Prelude.{◌≡◌, true, ◌&&◌, ◌⊎◌, ℕ, zero, suc, ◌+◌, ◌-◌, ◌≤◌, ◌<◌, leb, eqb, length, take, drop, replicate}
+use Rattle.std.specs.Prelude.{◌≡◌, true, ◌⊎◌, ℕ, zero, suc, ◌+◌, ◌-◌, ◌≤◌, ◌<◌, length, take, drop, replicate}
 use Rattle.std.proofs.Math.Path.{refl}
-use Rattle.std.proofs.Common.{sym, ap, ◌∙◌, inl, inr, add-zero, arith, le-leb, eq-eqb, lit<, drop_at}
+use Rattle.std.proofs.Common.{inl, inr, add-zero, arith, le-leb, lit<, drop_at}
 use Rattle.std.proofs.Math.Bool.{and-eq-true_iff}
 use mathlib.Core.List.{List, [], ◌∷◌, ◌++◌}
 use Rattle.std.proofs.Math.Numerals.{add-one}
 use Rattle.head.specs.PatternLaws.{there_and_back}
 use Rattle.cell.specs.declared.Entry.{Entry}
-use Rattle.cell.specs.declared.Notice.{Notice}
 use Rattle.cell.specs.Ranges.{notice_of}
 use Rattle.outbox.specs.declared.Place.{Place}
-use Rattle.outbox.specs.declared.Outbox.{Outbox}
 use Rattle.outbox.specs.Outbox.{notice, same, padded, held_of, box_of, oldest_of, spare, is_zero, is_spare, numbers_ok, in_turn, all_spare, form_ok}
 use Rattle.outbox.specs.Laws.{same_is, same_self, held_is}
 

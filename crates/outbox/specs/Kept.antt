@@ -1,5 +1,5 @@
 -- Every call leaves an outbox that came in its form in its form, so that one that starts fresh never meets number 23. Assumes nothing.
-use Rattle.std.specs.Prelude.{◌≡◌, refl, true, ◌⊎◌, List, [], ◌∷◌, ◌++◌, ℕ, suc, ◌+◌, ◌-◌, ◌≤◌, ◌<◌, length, drop, replicate}
+use Rattle.std.specs.Prelude.{◌≡◌, refl, true, ◌⊎◌, List, [], ◌∷◌, ◌++◌, ℕ, suc, ◌+◌, ◌-◌, ◌≤◌, length, drop, replicate}
 use Rattle.std.proofs.Common.{sym, ap, ◌∙◌, inl, inr, arith, lt-ltb, length-append, length-drop}
 use Rattle.std.proofs.Math.Path.{subst⁻¹}
 use Rattle.std.proofs.lemmas.List.{length-replicate}
@@ -10,7 +10,7 @@ use Rattle.outbox.specs.declared.Offered.TheVariants.{Oldest}
 use Rattle.outbox.specs.declared.Outbox.{Outbox}
 use Rattle.outbox.specs.declared.Place.{Place}
 use Rattle.outbox.specs.Outbox.{notice, void_of, place, spare, padded, held_of, box_of, oldest_of, form_ok, fresh_of, is_next, offer_of, added_of, replaced_of, acknowledged_of, swapped_of}
-use Rattle.outbox.specs.Laws.{NumbersIn, FormIn, form_in, held_is}
+use Rattle.outbox.specs.Laws.{NumbersIn, form_in, held_is}
 use Rattle.outbox.specs.Counts.{held_entry, Counted, counted_more, counted_drop, turn_counts, form_of}
 use Rattle.outbox.specs.CallLaws.{brought, fresh_is, Adds, adds, Offers, offers, offer_is, Reaches, Removes, removes, Swaps, swaps, next_number}
 

@@ -1,7 +1,7 @@
 -- Laws of the outbox: of its form, and of the 30 places seen as the list of those held. Assumes nothing.
 use Rattle.std.specs.Prelude.{◌≡◌, refl, Bool, true, false, not, ◌&&◌, leb, ltb, eqb, drop, replicate}
 use Rattle.std.proofs.Math.Path.{sym, ap}
-use Rattle.std.proofs.Common.{◌∙◌, add-one, arith, leb-true, ltb-true, eqb-true, eq-eqb, length-take, drop_of_length-le, get_or-take, take_at, take-suc, drop-cons}
+use Rattle.std.proofs.Common.{◌∙◌, add-one, arith, leb-true, ltb-true, eqb-true, eq-eqb, drop_of_length-le, get_or-take, take_at, take-suc, drop-cons}
 use mathlib.Core.List.{List, [], ◌∷◌, ◌++◌, append_assoc}
 use Prim.Native.Nat.{ℕ, zero, suc, ◌+◌, ◌-◌, ◌≤◌, ◌<◌}
 use Rattle.std.proofs.Math.Nat.{sub-zero}

@@ -19,7 +19,7 @@ use Rattle.cell.specs.CollectLaws.{collect_number_lem}
 use Rattle.site.specs.Rows.{part_at, put_at}
 use Rattle.site.specs.RowsLaws.{put_back, put_same, put_other, put_length, put_outside, room, part_length}
 use Rattle.site.specs.Site.{rows_fit}
-use Rattle.site.specs.Moves.{recut, recut_all, all_rows, Cut, move_number}
+use Rattle.site.specs.Moves.{recut, Cut}
 use Rattle.site.specs.MoveLaws.{recut_first, recut_zero, all_length, all_part, all_told, all_from, back_after_over, Movable, move_passed, move_fine}
 use Rattle.site.specs.Forms.{sums_width, grow_number, grown_rows, GrowGives, shrink_number, shrunk_rows, ShrinkGives, collecting_number, collected_rows, SumsGive}
 

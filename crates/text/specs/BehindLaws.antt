@@ -8,7 +8,7 @@ use native.Mathlib.Omega.{arith}
 use Rattle.std.proofs.Math.Dec.{eqb}
 use Rattle.std.proofs.Common.{eqb-true, ne_eqb}
 use Rattle.cell.specs.Ranges.{counts_ok}
-use Rattle.form.specs.Form.{Out, form_at, byte_at}
+use Rattle.form.specs.Form.{form_at, byte_at}
 use Rattle.form.specs.Many.{Run, many_at}
 use Rattle.form.specs.Words.{word_of}
 use Rattle.form.specs.Ends.{line_ends, first_line, first_lines}

@@ -11,7 +11,7 @@ use native.Mathlib.Omega.{arith}
 use Rattle.std.proofs.Math.ListN.{length, length-append}
 use Rattle.std.proofs.lemmas.List.{length-map, length-replicate}
 use Rattle.std.proofs.lemmas.List.Edits.{sets, sets-eq}
-use Rattle.std.proofs.Math.Seq.{length-sets, append_snoc}
+use Rattle.std.proofs.Math.Seq.{length-sets}
 use Rattle.std.proofs.Math.IntN.{pos}
 use borrow.Author.Tests.{le-leb, lt-ltb, le-ltb, eq-eqb, ne_eqb, eqb-true}
 use Rattle.text.specs.declared.Written.{Written}
@@ -27,14 +27,14 @@ use Rattle.cell.specs.Ranges.{counts_ok, none_of}
 use Rattle.cell.specs.RangeLaws.{counts_in_lem, counts_ok_lem, none_ends, none_more}
 use Rattle.cell.specs.Refusals.{refusal_number, malformed}
 use Rattle.form.specs.Form.{Out, form_at, form_text, byte_at}
-use Rattle.form.specs.FormLaws.{form_one, form_back, ok_words, apart_stops, parted, read, unword, cells_take, take_byte, byte_is, byte_seam, small_oks, all_small, and_i, and_1, and_2}
+use Rattle.form.specs.FormLaws.{form_one, form_back, ok_words, apart_stops, parted, unword, cells_take, take_byte, byte_is, byte_seam, small_oks, all_small, and_i, and_1, and_2}
 use Rattle.form.specs.Many.{Run, many_at, rows_text, many_fit}
 use Rattle.form.specs.RunLaws.{form_length, many_length, good_most}
 use Rattle.form.specs.DecLaws.{stops}
 use Rattle.form.specs.ManyLaws.{many_one, many_back, ran, rows_front, rows_stops, rows_words, rows_small}
 use Rattle.form.specs.Words.{word_of}
 use Rattle.text.specs.Lines.{card_form, depth_form, share_form, soil_form}
-use Rattle.text.specs.Cards.{range_counts, counts_of, unsaid_share, no_tail, tail_at, Depths, depths_at, bad_line, parse, card_result, soil_result, tail_text, card_text, card_parts, has_text, card_checks}
+use Rattle.text.specs.Cards.{range_counts, counts_of, unsaid_share, tail_at, Depths, depths_at, bad_line, parse, card_result, soil_result, tail_text, card_text, card_parts, has_text, card_checks}
 use Rattle.text.specs.Written.{fits_in, Writes}
 use Rattle.text.specs.WrittenLaws.{no_room, has_room, writes_none, writes_all, writes_text}
 use Rattle.form.specs.Put.{sets_step}

@@ -1,8 +1,4 @@
 use Rattle.outbox.specs.Outbox.{is_next}
-use Rattle.outbox.proofs.is_next.Reads as reads
-use Rattle.outbox.proofs.is_next.Lts as lts
-use Rattle.outbox.proofs.form.alike.Reads as alike-reads
-use Rattle.outbox.proofs.form.notice_of.Reads as notice-of-reads
 use Rattle.outbox.proofs.is_next.Goals as goal
 
 pub returns : goal.returns

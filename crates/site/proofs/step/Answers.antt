@@ -15,10 +15,6 @@ use Rattle.cell.specs.Step.{StepGives}
 use Rattle.site.specs.Rows.{part_at, put_at}
 use Rattle.site.specs.Site.{soil_fits, rows_fit, cell_fits, SiteGives}
 use Rattle.site.specs.SiteLaws.{gives, lengths_bad, cell_bad, reached, rows_reached, refused_gives}
-use Rattle.site.proofs.step.Reads as reads
-use Rattle.site.proofs.step.Lts as lts
-use Rattle.cell.proofs.step_row.Reads as step-row-reads
-use Rattle.site.proofs.refused.Reads as refused-reads
 use Rattle.site.proofs.step.Goals as goal
 
 -- `site::step` meets its contract. Refused by check 2 or 3, or what the named row gives, put back in its place. Assumes nothing.

@@ -1,7 +1,7 @@
 use native.Mathlib.Omega.{arith}
 use mathlib.Core.Path.{◌≡◌, ◌∙◌}
 use mathlib.Core.List.{append-nil}
-use Prim.Native.Nat.{◌≤◌, ◌-◌}
+use Prim.Native.Nat.{◌≤◌}
 use borrow.Author.Fill.{fill_more}
 use lib.ListN.{length, length-set, drop_of_length-le}
 use Rattle.site.proofs.zero.Goals as goal

@@ -1,6 +1,5 @@
 use native.Mathlib.Omega.{arith}
 use mathlib.Core.Path.{◌≡◌, refl, sym, ◌∙◌}
-use Prim.Native.Nat.{◌-◌}
 use lib.ListN.{drop, length-set, take-append-drop}
 use Rattle.cell.proofs.Loops.{spared_turn, taken_turn, spared_none, taken_none, spared_end, taken_end}
 use Rattle.cell.proofs.queue.draw.Goals as goal
@@ -31,8 +30,7 @@ loop-i-preserved c =
     )
 
 pub returns : goal.returns
-returns c =
-    (
-      omega (arith, c.wide-2.ensures, taken_end c.loop-i.want c.loop-i.i c.loop-i.slots (omega arith), c.loop-i.invariant.4),
-      sym (take-append-drop c.loop-i.i c.loop-i.slots) ∙ rw (← spared_end c.loop-i.want c.loop-i.i c.loop-i.slots (omega arith)) c.loop-i.invariant.3,
-    )
+returns c = (
+  omega (arith, c.wide-2.ensures, taken_end c.loop-i.want c.loop-i.i c.loop-i.slots (omega arith), c.loop-i.invariant.4),
+  sym (take-append-drop c.loop-i.i c.loop-i.slots) ∙ rw (← spared_end c.loop-i.want c.loop-i.i c.loop-i.slots (omega arith)) c.loop-i.invariant.3,
+)

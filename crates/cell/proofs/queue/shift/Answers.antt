@@ -25,13 +25,12 @@ loop-i-init c =
     (omega arith, omega arith, refl, refl)
 
 pub loop-i-preserved : goal.loop-i-preserved
-loop-i-preserved c =
-    (
-      omega arith,
-      c.loop-i.invariant.1,
-      simp length-set c.loop-i.invariant.2,
-      shift_turn c.loop-i.i c.loop-i.slots _ (omega arith) c.loop-i.invariant.3,
-    )
+loop-i-preserved c = (
+  omega arith,
+  c.loop-i.invariant.1,
+  simp length-set c.loop-i.invariant.2,
+  shift_turn c.loop-i.i c.loop-i.slots _ (omega arith) c.loop-i.invariant.3,
+)
 
 pub shape_of-slots : goal.shape_of-slots
 shape_of-slots c =

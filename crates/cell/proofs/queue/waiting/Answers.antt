@@ -1,5 +1,4 @@
 use native.Mathlib.Omega.{arith}
-use Prim.Native.Nat.{◌-◌}
 use Rattle.cell.proofs.Loops.{total_at, total_end}
 use Rattle.cell.proofs.queue.waiting.Goals as goal
 

@@ -1,5 +1,4 @@
 use Rattle.cell.proofs.Loops.{held_turn, held_end}
-use Prim.Native.Nat.{◌-◌}
 use mathlib.Core.Path.{refl, sym, ◌∙◌}
 use native.Mathlib.Omega.{arith}
 use Rattle.cell.proofs.ranges.held.Goals as goal

@@ -1,5 +1,4 @@
 use Rattle.cell.proofs.Loops.{rising_turn, rising_end}
-use Prim.Native.Nat.{◌-◌}
 use mathlib.Core.Path.{refl, sym, ◌∙◌}
 use native.Mathlib.Omega.{arith}
 use Rattle.cell.proofs.ranges.rising.Goals as goal

@@ -1,6 +1,5 @@
 use Rattle.cell.proofs.Loops.{rest_is, slots_split}
 use lib.Seq.{length-take-le}
-use Prim.Native.Nat.{◌-◌}
 use mathlib.Core.Path.{sym}
 use native.Mathlib.Omega.{arith}
 use Rattle.cell.proofs.ranges.slots_ok.Goals as goal

@@ -1,7 +1,4 @@
 use native.Mathlib.Omega.{arith}
-use mathlib.Core.Path.{◌≡◌}
-use Prim.Native.Nat.{ℕ, ◌+◌, ◌≤◌, max}
-use Rattle.cell.specs.declared.Depth.{Depth}
 use Rattle.cell.specs.RuleLaws.{lack_le, lack_most}
 use Rattle.cell.specs.Rules.{lack_of}
 use Rattle.cell.proofs.rules.lack.Goals as goal

@@ -9,7 +9,6 @@ use Rattle.cell.specs.declared.step.Settled.{Settled}
 use Rattle.cell.specs.Water.{water, net}
 use Rattle.cell.specs.Rules.{etsat_of, stored_of, direct_of, recharge_of}
 use Rattle.cell.specs.Parts.{settled_of}
-use borrow.Author.Rules.{rules}
 use Rattle.cell.proofs.step.settle.Goals as goal
 
 -- `cell::step::settle` meets its contract. Each call gives its rule, and the rules put together are the definition. Assumes nothing.

@@ -9,7 +9,6 @@ use Rattle.cell.specs.Water.{water}
 use Rattle.cell.specs.Rules.{curve_of, storm_of, delay_of, runoff_of, etvad_of, lack_of, drain_of}
 use Rattle.cell.specs.Step.{given, curve, storm, delay, runoff, etvad, lack, drain, sunk}
 use Rattle.cell.specs.Parts.{wetting_of}
-use borrow.Author.Rules.{rules}
 use Rattle.cell.proofs.step.wet.Goals as goal
 
 -- `cell::step::wet` meets its contract. Each call gives its rule, and the rules put together are the definition. Assumes nothing.

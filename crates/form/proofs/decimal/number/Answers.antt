@@ -1,5 +1,4 @@
 use mathlib.Core.Path.{sym, ◌∙◌}
-use Prim.Native.Nat.{◌-◌}
 use native.Mathlib.Omega.{arith}
 use borrow.Author.Rules.{rules}
 use Rattle.form.proofs.Digits.{start_end, start_stop, start_more, go_end, go_stop, go_zero, go_over, go_more}

@@ -2,7 +2,7 @@ use native.Mathlib.Omega.{arith}
 use borrow.Author.Rules.{rules}
 use mathlib.Core.Path.{◌≡◌, refl, sym, ◌∙◌}
 use mathlib.Core.Bool.{true, false}
-use Prim.Native.Nat.{suc, ◌-◌, ◌+◌}
+use Prim.Native.Nat.{suc, ◌+◌}
 use lib.ListN.{drop, get_or}
 use lib.IntN.{pos}
 use mir.Val.{to_z, of_z}

@@ -5,7 +5,7 @@ use borrow.Author.Rules.{rules}
 use mathlib.Core.Bool.{true, false}
 use mathlib.Core.Path.{◌≡◌, ap, sym, ◌∙◌, refl}
 use mathlib.Core.List.{◌∷◌, ◌++◌}
-use Prim.Native.Nat.{◌-◌, ◌+◌, suc}
+use Prim.Native.Nat.{◌+◌, suc}
 use lib.ListN.{length, drop, get_or, length-append}
 use lib.IntN.{pos}
 use Rattle.form.specs.Form.{marks, form_text, val_text, is_mark}

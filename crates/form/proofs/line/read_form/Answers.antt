@@ -8,7 +8,7 @@ use Prim.Native.Nat.{suc}
 use native.Mathlib.Omega.{arith}
 use borrow.Author.Rules.{rules}
 use mathlib.Core.Path.{◌≡◌, ap, sym, ◌∙◌, refl}
-use Prim.Native.Nat.{◌-◌, ◌+◌}
+use Prim.Native.Nat.{◌+◌}
 use lib.ListN.{drop, length-set}
 use lib.Seq.{sets}
 use Rattle.form.specs.Form.{Out, form_at, taken_of, marks}

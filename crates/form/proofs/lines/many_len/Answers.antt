@@ -1,6 +1,6 @@
 use native.Mathlib.Omega.{arith}
 use mathlib.Core.Path.{ap, ◌∙◌}
-use Prim.Native.Nat.{ℕ, ◌-◌, ◌+◌}
+use Prim.Native.Nat.{ℕ, ◌+◌}
 use Rattle.form.proofs.PutRows.{len_begin, len_room, len_turn, len_done}
 use native.Mathlib.Nat.{zero-add}
 use Rattle.form.proofs.lines.many_len.Goals as goal

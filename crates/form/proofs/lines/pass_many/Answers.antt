@@ -1,7 +1,6 @@
 use mathlib.Core.Path.{◌∙◌}
 use native.Mathlib.Omega.{arith}
 use borrow.Author.Rules.{rules}
-use Prim.Native.Nat.{◌-◌}
 use Rattle.form.proofs.Rows.{past_begin, past_turn, past_halt, past_done}
 use Rattle.form.proofs.lines.pass_many.Goals as goal
 
@@ -18,8 +17,7 @@ loop-k-smaller c =
     omega arith
 
 pub loop-k-preserved : goal.loop-k-preserved
-loop-k-preserved c =
-    (
+loop-k-preserved c = (
   past_turn c.args.s.now c.args.f.now c.args.from c.args.n c.loop-k.at c.loop-k.k c.loop-k.invariant.0 _ c.loop-k-test.true c.read_form-t.ensures.0 c.if-ok.true,
   c.read_form-t.auto.vals ∙ c.loop-k.invariant.1,
 )

@@ -1,5 +1,4 @@
 use native.Mathlib.Omega.{arith}
-use Prim.Native.Nat.{◌-◌}
 use Rattle.form.proofs.PutRows.{put_begin, put_turn, put_done, len_room, len_fits}
 use Rattle.form.proofs.lines.put_many.Goals as goal
 

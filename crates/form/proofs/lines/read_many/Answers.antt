@@ -1,6 +1,5 @@
 use mathlib.Core.Path.{◌∙◌}
 use native.Mathlib.Omega.{arith}
-use Prim.Native.Nat.{◌-◌}
 use Rattle.form.proofs.Rows.{begin, enough, turn, halt, done}
 use Rattle.form.proofs.lines.read_many.Goals as goal
 

@@ -1,5 +1,5 @@
 use mathlib.Core.Path.{sym, ap, ◌∙◌}
-use Prim.Native.Nat.{ℕ, ◌-◌}
+use Prim.Native.Nat.{ℕ}
 use mir.Facts.{to_z-of_z}
 use Rattle.form.proofs.Digits.{ok_signed, ok_neg, ok_pos}
 use lib.Dec.{ltb}

@@ -1,5 +1,4 @@
 use Rattle.gateway.proofs.Signs.{zeros_turn, zeros_end}
-use Prim.Native.Nat.{◌-◌}
 use mathlib.Core.Path.{refl, sym, ◌∙◌}
 use native.Mathlib.Omega.{arith}
 use Rattle.gateway.proofs.records.all_zero.Goals as goal
@@ -13,8 +12,7 @@ size_at-requires c =
     c.loop-i-test.true
 
 pub loop-i-preserved : goal.loop-i-preserved
-loop-i-preserved c =
-    (
+loop-i-preserved c = (
   omega arith,
   rw c.size_at.ensures.0
       (sym (zeros_turn c.loop-i.ok c.loop-i.i c.args.l.now c.loop-i-test.true) ∙ c.loop-i.invariant.1),

@@ -1,6 +1,6 @@
 use Rattle.form.specs.Put.{sets_all}
 use lib.ListN.{replicate, length-replicate}
-use Prim.Native.Nat.{ℕ, ◌-◌}
+use Prim.Native.Nat.{ℕ}
 use mathlib.Core.Path.{◌∙◌}
 use native.Mathlib.Nat.{add-zero}
 use native.Mathlib.Omega.{arith}

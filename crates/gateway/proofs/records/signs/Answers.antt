@@ -1,5 +1,4 @@
 use Rattle.gateway.proofs.Signs.{signs_turn, signs_end}
-use Prim.Native.Nat.{◌-◌}
 use mathlib.Core.Path.{refl, sym, ◌∙◌}
 use native.Mathlib.Omega.{arith}
 use Rattle.gateway.proofs.records.signs.Goals as goal

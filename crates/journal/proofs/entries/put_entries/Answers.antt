@@ -5,7 +5,7 @@ use Rattle.journal.specs.Book.{entries_text}
 use Rattle.site.specs.SheetLaws.{site_within}
 use Rattle.site.specs.Sheet.{no_steps}
 use lib.ListN.{length}
-use Prim.Native.Nat.{◌+◌, ◌-◌}
+use Prim.Native.Nat.{◌+◌}
 use native.Mathlib.Omega.{arith}
 use Rattle.journal.proofs.entries.put_entries.Goals as goal
 

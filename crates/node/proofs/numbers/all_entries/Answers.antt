@@ -1,6 +1,6 @@
 use Rattle.node.proofs.Turns.{part_wide, part_is, entries_turn, entries_end}
 use Rattle.node.specs.Numbers.{all_entries}
-use Prim.Native.Nat.{◌+◌, ◌*◌, ◌-◌}
+use Prim.Native.Nat.{◌+◌, ◌*◌}
 use mathlib.Core.Path.{refl, sym, ◌∙◌}
 use native.Mathlib.Omega.{arith}
 use Rattle.node.proofs.numbers.all_entries.Goals as goal

@@ -1,5 +1,4 @@
 use Rattle.node.proofs.Turns.{zeros_turn, zeros_end}
-use Prim.Native.Nat.{◌-◌}
 use mathlib.Core.Path.{refl, sym, ◌∙◌}
 use native.Mathlib.Omega.{arith}
 use Rattle.node.proofs.numbers.all_zero.Goals as goal

@@ -2,7 +2,7 @@ use Rattle.node.proofs.Turns.{part_wide, part_is, places_turn, places_end}
 use Rattle.outbox.specs.Outbox.{place}
 use Rattle.node.specs.Numbers.{box_from}
 use lib.ListN.{length-set}
-use Prim.Native.Nat.{◌+◌, ◌*◌, ◌-◌}
+use Prim.Native.Nat.{◌+◌, ◌*◌}
 use mathlib.Core.Path.{refl, sym, ◌∙◌}
 use native.Mathlib.Omega.{arith}
 use Rattle.node.proofs.numbers.box_from.Goals as goal

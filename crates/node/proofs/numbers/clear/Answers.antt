@@ -1,7 +1,7 @@
 use borrow.Author.Fill.{fill_none, fill_more}
 use lib.ListN.{length, replicate, length-set}
 use lib.Seq.{drop-length}
-use Prim.Native.Nat.{◌-◌, ◌<◌}
+use Prim.Native.Nat.{◌<◌}
 use mathlib.Core.List.{append-nil}
 use mathlib.Core.Path.{◌≡◌, refl, ◌∙◌}
 use native.Mathlib.Omega.{arith}

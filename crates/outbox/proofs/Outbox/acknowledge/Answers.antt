@@ -8,10 +8,6 @@ use mathlib.Core.Bool.{true, false}
 use lib.ListN.{length}
 use native.Mathlib.Omega.{arith}
 use borrow.Author.Rules.{rules}
-use Rattle.outbox.proofs.Outbox.acknowledge.Reads as reads
-use Rattle.outbox.proofs.Outbox.acknowledge.Lts as lts
-use Rattle.outbox.proofs.form.form_ok.Reads as form-ok-reads
-use Rattle.outbox.proofs.places.kept.Reads as kept-reads
 use Rattle.outbox.proofs.Outbox.acknowledge.Goals as goal
 
 pub returns-then-not-form_ok : goal.returns-then-not-form_ok

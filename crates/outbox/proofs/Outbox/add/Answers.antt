@@ -8,11 +8,6 @@ use lib.ListN.{length}
 use borrow.Author.Tests.{lt-ltb, le-ltb}
 use native.Mathlib.Omega.{arith}
 use borrow.Author.Rules.{rules}
-use Rattle.outbox.proofs.Outbox.add.Reads as reads
-use Rattle.outbox.proofs.Outbox.add.Lts as lts
-use Rattle.outbox.proofs.form.form_ok.Reads as form-ok-reads
-use Rattle.outbox.proofs.is_next.Reads as is-next-reads
-use Rattle.outbox.proofs.places.kept.Reads as kept-reads
 use Rattle.outbox.proofs.Outbox.add.Goals as goal
 
 pub returns-then-not-form_ok : goal.returns-then-not-form_ok

@@ -1,8 +1,5 @@
 use Rattle.outbox.specs.Outbox.{fresh_of}
 use borrow.Author.Tests.{le-leb, lt-leb}
-use Rattle.outbox.proofs.Outbox.fresh.Reads as reads
-use Rattle.outbox.proofs.Outbox.fresh.Lts as lts
-use Rattle.outbox.proofs.places.empty.Reads as empty-reads
 use Rattle.outbox.proofs.Outbox.fresh.Goals as goal
 
 pub returns-then-cell-le255 : goal.returns-then-cell-le255

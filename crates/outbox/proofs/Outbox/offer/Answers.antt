@@ -6,9 +6,6 @@ use Rattle.outbox.proofs.Room.{unmapped}
 use mathlib.Core.Path.{◌≡◌}
 use lib.ListN.{length}
 use borrow.Author.Rules.{rules}
-use Rattle.outbox.proofs.Outbox.offer.Reads as reads
-use Rattle.outbox.proofs.Outbox.offer.Lts as lts
-use Rattle.outbox.proofs.form.form_ok.Reads as form-ok-reads
 use Rattle.outbox.proofs.Outbox.offer.Goals as goal
 
 pub returns-then-not-form_ok : goal.returns-then-not-form_ok

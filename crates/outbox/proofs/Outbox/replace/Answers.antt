@@ -7,11 +7,6 @@ use lib.ListN.{length}
 use Rattle.cell.specs.declared.Entry.{Entry}
 use native.Mathlib.Omega.{arith}
 use borrow.Author.Rules.{rules}
-use Rattle.outbox.proofs.Outbox.replace.Reads as reads
-use Rattle.outbox.proofs.Outbox.replace.Lts as lts
-use Rattle.outbox.proofs.form.form_ok.Reads as form-ok-reads
-use Rattle.outbox.proofs.form.notice_of.Reads as notice-of-reads
-use Rattle.outbox.proofs.places.kept.Reads as kept-reads
 use Rattle.outbox.proofs.Outbox.replace.Goals as goal
 
 pub returns-then-not-form_ok : goal.returns-then-not-form_ok

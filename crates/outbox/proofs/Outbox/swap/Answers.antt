@@ -4,10 +4,6 @@ use Rattle.outbox.specs.Outbox.{swapped_of, unless, is_higher}
 use Rattle.outbox.specs.Laws.{passed, failed}
 use mathlib.Core.Path.{◌≡◌}
 use mathlib.Core.Bool.{true, false}
-use Rattle.outbox.proofs.Outbox.swap.Reads as reads
-use Rattle.outbox.proofs.Outbox.swap.Lts as lts
-use Rattle.outbox.proofs.form.form_ok.Reads as form-ok-reads
-use Rattle.outbox.proofs.places.empty.Reads as empty-reads
 use Rattle.outbox.proofs.Outbox.swap.Goals as goal
 
 pub returns-then-not-form_ok : goal.returns-then-not-form_ok

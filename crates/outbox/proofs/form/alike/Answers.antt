@@ -1,7 +1,5 @@
 use Rattle.outbox.specs.Outbox.{same}
 use mathlib.Core.Path.{refl}
-use Rattle.outbox.proofs.form.alike.Reads as reads
-use Rattle.outbox.proofs.form.alike.Lts as lts
 use Rattle.outbox.proofs.form.alike.Goals as goal
 
 -- `outbox::form::alike` meets its contract. Assumes nothing.

@@ -1,11 +1,6 @@
 use Rattle.outbox.specs.Laws.{numbers_in, form_bad, form_by}
 use Rattle.outbox.specs.Outbox.{numbers_ok}
 use mathlib.Core.Path.{sym}
-use mathlib.Core.Bool.{true, false}
-use Rattle.outbox.proofs.form.form_ok.Reads as reads
-use Rattle.outbox.proofs.form.form_ok.Lts as lts
-use Rattle.outbox.proofs.form.in_turn.Reads as in-turn-reads
-use Rattle.outbox.proofs.form.rest_spare.Reads as rest-spare-reads
 use Rattle.outbox.proofs.form.form_ok.Goals as goal
 
 -- `outbox::form::form_ok` meets its contract. Assumes nothing.

@@ -2,16 +2,11 @@ use Rattle.outbox.specs.Outbox.{held_of}
 use Rattle.outbox.specs.Laws.{turn_on, turn_end}
 use mathlib.Core.Path.{◌≡◌, refl, sym, ◌∙◌}
 use mathlib.Core.Bool.{and-true}
-use Prim.Native.Nat.{◌-◌}
 use lib.ListN.{length, take}
 use native.Mathlib.Omega.{arith}
 use borrow.Author.Rules.{rules}
 use lib.Seq.{length-take-le}
 use Rattle.outbox.proofs.Room.{unmapped}
-use Rattle.outbox.proofs.form.in_turn.Reads as reads
-use Rattle.outbox.proofs.form.in_turn.Lts as lts
-use Rattle.outbox.proofs.form.alike.Reads as alike-reads
-use Rattle.outbox.proofs.form.notice_of.Reads as notice-of-reads
 use Rattle.outbox.proofs.form.in_turn.Goals as goal
 
 pub overflow_sub-count : goal.overflow_sub-count

@@ -3,10 +3,6 @@ use mathlib.Core.Path.{◌≡◌}
 use mathlib.Core.Bool.{◌&&◌}
 use Prim.Native.Nat.{◌+◌, ◌-◌, ◌≤◌}
 use lib.ListN.{take, drop}
-use Rattle.outbox.proofs.form.in_turn.Reads as reads
-use Rattle.outbox.proofs.form.in_turn.Lts as lts
-use Rattle.outbox.proofs.form.alike.Reads as alike-reads
-use Rattle.outbox.proofs.form.notice_of.Reads as notice-of-reads
 use Rattle.outbox.proofs.form.in_turn.Given as goal
 
 abbrev pub invariant-loop-i : goal.invariant-loop-i

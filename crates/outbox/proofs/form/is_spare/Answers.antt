@@ -1,8 +1,5 @@
 use Rattle.outbox.specs.Outbox.{is_spare}
 use mathlib.Core.Path.{sym, ap, ◌∙◌}
-use Rattle.outbox.proofs.form.is_spare.Reads as reads
-use Rattle.outbox.proofs.form.is_spare.Lts as lts
-use Rattle.outbox.proofs.form.is_zero.Reads as is-zero-reads
 use Rattle.outbox.proofs.form.is_spare.Goals as goal
 
 pub returns-in-Reading : goal.returns-in-Reading

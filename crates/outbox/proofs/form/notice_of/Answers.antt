@@ -1,7 +1,5 @@
 use Rattle.cell.specs.Ranges.{notice_of}
 use mathlib.Core.Path.{sym, ap}
-use Rattle.outbox.proofs.form.notice_of.Reads as reads
-use Rattle.outbox.proofs.form.notice_of.Lts as lts
 use Rattle.outbox.proofs.form.notice_of.Goals as goal
 
 pub returns-in-Reading : goal.returns-in-Reading

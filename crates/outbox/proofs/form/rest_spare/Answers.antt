@@ -1,14 +1,10 @@
 use Rattle.outbox.specs.Laws.{spare_on, spare_end}
 use mathlib.Core.Path.{◌≡◌, refl, sym, ◌∙◌}
 use mathlib.Core.Bool.{and-true}
-use Prim.Native.Nat.{◌-◌}
 use lib.ListN.{length}
 use native.Mathlib.Omega.{arith}
 use borrow.Author.Rules.{rules}
 use Rattle.outbox.proofs.Room.{unmapped}
-use Rattle.outbox.proofs.form.rest_spare.Reads as reads
-use Rattle.outbox.proofs.form.rest_spare.Lts as lts
-use Rattle.outbox.proofs.form.is_spare.Reads as is-spare-reads
 use Rattle.outbox.proofs.form.rest_spare.Goals as goal
 
 pub loop-i-init : goal.loop-i-init

@@ -3,9 +3,6 @@ use mathlib.Core.Path.{◌≡◌}
 use mathlib.Core.Bool.{◌&&◌}
 use Prim.Native.Nat.{◌-◌, ◌≤◌}
 use lib.ListN.{drop}
-use Rattle.outbox.proofs.form.rest_spare.Reads as reads
-use Rattle.outbox.proofs.form.rest_spare.Lts as lts
-use Rattle.outbox.proofs.form.is_spare.Reads as is-spare-reads
 use Rattle.outbox.proofs.form.rest_spare.Given as goal
 
 abbrev pub invariant-loop-i : goal.invariant-loop-i

@@ -1,7 +1,4 @@
 use Rattle.outbox.specs.Outbox.{box_of, padded}
-use Rattle.outbox.proofs.places.empty.Reads as reads
-use Rattle.outbox.proofs.places.empty.Lts as lts
-use Rattle.outbox.proofs.places.spares.Reads as spares-reads
 use Rattle.outbox.proofs.places.empty.Goals as goal
 
 pub returns : goal.returns

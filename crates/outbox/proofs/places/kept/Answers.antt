@@ -6,9 +6,6 @@ use lib.ListN.{length, drop, take, length-drop}
 use lib.Seq.{get_or-drop, length-take-le}
 use native.Mathlib.Omega.{arith}
 use borrow.Author.Rules.{rules}
-use Rattle.outbox.proofs.places.kept.Reads as reads
-use Rattle.outbox.proofs.places.kept.Lts as lts
-use Rattle.outbox.proofs.places.spares.Reads as spares-reads
 use Rattle.outbox.proofs.places.kept.Goals as goal
 
 pub loop-i-init : goal.loop-i-init

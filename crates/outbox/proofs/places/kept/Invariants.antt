@@ -1,11 +1,8 @@
 use Rattle.outbox.specs.Outbox.{spare}
 use mathlib.Core.Path.{◌≡◌}
 use mathlib.Core.List.{◌++◌}
-use Prim.Native.Nat.{◌+◌, ◌-◌, ◌≤◌}
+use Prim.Native.Nat.{◌-◌, ◌≤◌}
 use lib.ListN.{drop, take, replicate}
-use Rattle.outbox.proofs.places.kept.Reads as reads
-use Rattle.outbox.proofs.places.kept.Lts as lts
-use Rattle.outbox.proofs.places.spares.Reads as spares-reads
 use Rattle.outbox.proofs.places.kept.Given as goal
 
 abbrev pub invariant-loop-i : goal.invariant-loop-i

@@ -1,10 +1,6 @@
 use mathlib.Core.Path.{sym, ap, ◌∙◌}
 use Rattle.site.specs.Sheet.{addable}
 use Rattle.site.specs.SheetLaws.{takes_in, added_taken, added_refused}
-use Rattle.site.proofs.Sheet.add.Reads as reads
-use Rattle.site.proofs.Sheet.add.Lts as lts
-use Rattle.site.proofs.limits.plus.Reads as plus-reads
-use Rattle.site.proofs.limits.takes.Reads as takes-reads
 use Rattle.site.proofs.Sheet.add.Goals as goal
 
 pub returns-then-not-takes : goal.returns-then-not-takes

@@ -1,4 +1,4 @@
-use Prim.Native.Nat.{◌+◌, ◌*◌, ◌≤◌}
+use Prim.Native.Nat.{◌*◌, ◌≤◌}
 use lib.IntN.{nat_abs, ◌+ℤ◌}
 use mir.Syntax.{w64}
 use mir.Val.{SFits}
@@ -68,7 +68,7 @@ overflow_add-result-10 c =
     let known : Takes c.args.s c.args.a = takes_in c.args.s c.args.a c.requires in
     let first : bits c.args.s.recharge.0 ≡ c.args.s.recharge.0 = back c.args.s.recharge.0 3000000000000000000 (omega (arith, known.sums.recharge, known.steps)) (omega arith) in
     let second : bits c.args.a.recharge.0 ≡ c.args.a.recharge.0 = back c.args.a.recharge.0 30000000000 known.amounts.recharge (omega arith) in
-    let sum-small : nat_abs (bits c.args.s.recharge.0 +ℤ bits c.args.a.recharge.0) ≤ 3000000000000000000 = rw (first, second) (omega ( arith, abs_add c.args.s.recharge.0 c.args.a.recharge.0 (30000000000 * c.args.s.steps) 30000000000 known.sums.recharge known.amounts.recharge, known.steps, )) in
+    let sum-small : nat_abs (bits c.args.s.recharge.0 +ℤ bits c.args.a.recharge.0) ≤ 3000000000000000000 = rw (first, second) (omega (arith, abs_add c.args.s.recharge.0 c.args.a.recharge.0 (30000000000 * c.args.s.steps) 30000000000 known.sums.recharge known.amounts.recharge, known.steps)) in
     let sum_fits : SFits w64 (bits c.args.s.recharge.0 +ℤ bits c.args.a.recharge.0) = sfits (bits c.args.s.recharge.0 +ℤ bits c.args.a.recharge.0) 3000000000000000000 sum-small (omega arith) in
     sum_fits
 
@@ -78,5 +78,5 @@ returns c =
     let known : Takes c.args.s c.args.a = takes_in c.args.s c.args.a c.requires in
     let first : bits c.args.s.recharge.0 ≡ c.args.s.recharge.0 = back c.args.s.recharge.0 3000000000000000000 (omega (arith, known.sums.recharge, known.steps)) (omega arith) in
     let second : bits c.args.a.recharge.0 ≡ c.args.a.recharge.0 = back c.args.a.recharge.0 30000000000 known.amounts.recharge (omega arith) in
-    let sum-small : nat_abs (bits c.args.s.recharge.0 +ℤ bits c.args.a.recharge.0) ≤ 3000000000000000000 = rw (first, second) (omega ( arith, abs_add c.args.s.recharge.0 c.args.a.recharge.0 (30000000000 * c.args.s.steps) 30000000000 known.sums.recharge known.amounts.recharge, known.steps, )) in
+    let sum-small : nat_abs (bits c.args.s.recharge.0 +ℤ bits c.args.a.recharge.0) ≤ 3000000000000000000 = rw (first, second) (omega (arith, abs_add c.args.s.recharge.0 c.args.a.recharge.0 (30000000000 * c.args.s.steps) 30000000000 known.sums.recharge known.amounts.recharge, known.steps)) in
     rw (back (bits c.args.s.recharge.0 +ℤ bits c.args.a.recharge.0) 3000000000000000000 sum-small (omega arith), first, second)

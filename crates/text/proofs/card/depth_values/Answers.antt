@@ -1,6 +1,5 @@
 use native.Mathlib.Omega.{arith}
 use mathlib.Core.Path.{refl, sym, ◌∙◌}
-use Prim.Native.Nat.{◌-◌}
 use lib.IntN.{pos}
 use mir.Syntax.{w64}
 use mathlib.Core.List.{map}

@@ -1,5 +1,4 @@
 use mathlib.Core.Path.{refl, sym, ◌∙◌}
-use Prim.Native.Nat.{◌-◌}
 use Rattle.text.proofs.Zeros.{zero_end, zero_yes, zero_no}
 use Rattle.text.proofs.card.zero_from.Goals as goal
 
