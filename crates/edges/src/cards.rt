@@ -1,13 +1,15 @@
 // Number 1: the card. A card without delays.
 use crate::{plots, show};
 use cell::Card;
+use std::io;
 
 // The example's reading, under a card of so many plots and delays, with two depths.
-fn two(cells: u32, delays: u32, first: u32, second: u32) {
+fn two(rt: &impl Print, cells: u32, delays: u32, first: u32, second: u32) -> io::Result<()> {
     show::form(
+        rt,
         b"cells=# delays=# depth=# depth=#",
         &[cells as u64, delays as u64, first as u64, second as u64],
-    );
+    )?;
     let depths = plots::depths(first, second);
     let card = Card {
         cells,
@@ -17,15 +19,16 @@ fn two(cells: u32, delays: u32, first: u32, second: u32) {
     };
     let soil = plots::soil();
     let mut rows = [0u32; 36];
-    show::step(card, &soil, &mut rows, plots::reading());
+    show::step(rt, card, &soil, &mut rows, plots::reading())
 }
 
 // One plot with so many delays and a depth in each of the 30 places, and water in the first and the last slot.
-fn many(delays: u32) {
+fn many(rt: &impl Print, delays: u32) -> io::Result<()> {
     show::form(
+        rt,
         b"30 depths, slot 1 at 5, slot 30 at 2000000, delays=#",
         &[delays as u64],
-    );
+    )?;
     let depths = plots::full_depths();
     let card = Card {
         cells: 1,
@@ -37,28 +40,28 @@ fn many(delays: u32) {
     let mut rows = [0u32; 36];
     rows[2] = 5;
     rows[31] = 2000000;
-    show::step(card, &soil, &mut rows, plots::reading());
+    show::step(rt, card, &soil, &mut rows, plots::reading())
 }
 
-pub fn cases() {
+pub fn cases(rt: &impl Print) -> io::Result<()> {
     // Depths that rise, and depths in range.
-    two(1, 2, 1000000, 2000000);
-    two(1, 2, 1000000, 1000000);
-    two(1, 2, 1000000, 1000001);
-    two(1, 2, 1000000, 999999);
-    two(1, 2, 0, 2000000);
-    two(1, 2, 1, 2000000);
-    two(1, 2, 1000000, 1000000000);
-    two(1, 2, 1000000, 1000000001);
+    two(rt, 1, 2, 1000000, 2000000)?;
+    two(rt, 1, 2, 1000000, 1000000)?;
+    two(rt, 1, 2, 1000000, 1000001)?;
+    two(rt, 1, 2, 1000000, 999999)?;
+    two(rt, 1, 2, 0, 2000000)?;
+    two(rt, 1, 2, 1, 2000000)?;
+    two(rt, 1, 2, 1000000, 1000000000)?;
+    two(rt, 1, 2, 1000000, 1000000001)?;
     // Places in use and not, and a card without delays.
-    two(1, 1, 1000000, 0);
-    two(1, 1, 1000000, 2000000);
-    two(1, 0, 0, 0);
-    two(1, 0, 1, 0);
+    two(rt, 1, 1, 1000000, 0)?;
+    two(rt, 1, 1, 1000000, 2000000)?;
+    two(rt, 1, 0, 0, 0)?;
+    two(rt, 1, 0, 1, 0)?;
     // The most delays, and the numbers of cells out of range.
-    many(29);
-    many(30);
-    many(31);
-    two(0, 2, 1000000, 2000000);
-    two(257, 2, 1000000, 2000000);
+    many(rt, 29)?;
+    many(rt, 30)?;
+    many(rt, 31)?;
+    two(rt, 0, 2, 1000000, 2000000)?;
+    two(rt, 257, 2, 1000000, 2000000)
 }

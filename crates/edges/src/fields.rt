@@ -1,9 +1,19 @@
 // Number 8: the other fields of a reading, but for rain. What decides how much plants take of the day's own water.
 use crate::{plots, show};
+use std::io;
 
 // A reading of these waters, needs of the plants and wetness before, given to the example's plot.
-fn day(rain: u32, irrig: u32, septic: u32, etmin: u32, pet: u32, amc: u32) {
+fn day(
+    rt: &impl Print,
+    rain: u32,
+    irrig: u32,
+    septic: u32,
+    etmin: u32,
+    pet: u32,
+    amc: u32,
+) -> io::Result<()> {
     show::form(
+        rt,
         b"rain=# irrig=# septic=# etmin=# pet=# amc=#",
         &[
             rain as u64,
@@ -13,7 +23,7 @@ fn day(rain: u32, irrig: u32, septic: u32, etmin: u32, pet: u32, amc: u32) {
             pet as u64,
             amc as u64,
         ],
-    );
+    )?;
     let mut r = plots::reading();
     r.rain = rain;
     r.irrig = irrig;
@@ -21,33 +31,33 @@ fn day(rain: u32, irrig: u32, septic: u32, etmin: u32, pet: u32, amc: u32) {
     r.etmin = etmin;
     r.pet = pet;
     r.amc = amc;
-    show::reading(r);
+    show::reading(rt, r)
 }
 
-pub fn cases() {
+pub fn cases(rt: &impl Print) -> io::Result<()> {
     // The ends of the ranges.
-    day(50800, 1000000, 1000, 2000, 5000, 2);
-    day(50800, 1000001, 1000, 2000, 5000, 2);
-    day(50800, 0, 1000000, 2000, 5000, 2);
-    day(50800, 0, 1000001, 2000, 5000, 2);
-    day(50800, 0, 1000, 2000, 1000000, 2);
-    day(50800, 0, 1000, 2000, 1000001, 2);
-    day(50800, 0, 1000, 1000000, 1000000, 2);
-    day(50800, 0, 1000, 1000001, 1000001, 2);
-    day(50800, 0, 1000, 5000, 5000, 2);
-    day(50800, 0, 1000, 5001, 5000, 2);
-    day(50800, 0, 1000, 2000, 5000, 0);
-    day(50800, 0, 1000, 2000, 5000, 1);
-    day(50800, 0, 1000, 2000, 5000, 3);
-    day(50800, 0, 1000, 2000, 5000, 4);
+    day(rt, 50800, 1000000, 1000, 2000, 5000, 2)?;
+    day(rt, 50800, 1000001, 1000, 2000, 5000, 2)?;
+    day(rt, 50800, 0, 1000000, 2000, 5000, 2)?;
+    day(rt, 50800, 0, 1000001, 2000, 5000, 2)?;
+    day(rt, 50800, 0, 1000, 2000, 1000000, 2)?;
+    day(rt, 50800, 0, 1000, 2000, 1000001, 2)?;
+    day(rt, 50800, 0, 1000, 1000000, 1000000, 2)?;
+    day(rt, 50800, 0, 1000, 1000001, 1000001, 2)?;
+    day(rt, 50800, 0, 1000, 5000, 5000, 2)?;
+    day(rt, 50800, 0, 1000, 5001, 5000, 2)?;
+    day(rt, 50800, 0, 1000, 2000, 5000, 0)?;
+    day(rt, 50800, 0, 1000, 2000, 5000, 1)?;
+    day(rt, 50800, 0, 1000, 2000, 5000, 3)?;
+    day(rt, 50800, 0, 1000, 2000, 5000, 4)?;
     // Etvad with irrigation: G - runoff beside etmin + irrig, etmin + irrig beside pet, G - runoff beside pet.
-    day(1999, 500, 1000, 2000, 5000, 2);
-    day(2000, 500, 1000, 2000, 5000, 2);
-    day(2001, 500, 1000, 2000, 5000, 2);
-    day(50800, 2999, 1000, 2000, 5000, 2);
-    day(50800, 3000, 1000, 2000, 5000, 2);
-    day(50800, 3001, 1000, 2000, 5000, 2);
-    day(1000, 3999, 1000, 2000, 5000, 2);
-    day(1000, 4000, 1000, 2000, 5000, 2);
-    day(1000, 4001, 1000, 2000, 5000, 2);
+    day(rt, 1999, 500, 1000, 2000, 5000, 2)?;
+    day(rt, 2000, 500, 1000, 2000, 5000, 2)?;
+    day(rt, 2001, 500, 1000, 2000, 5000, 2)?;
+    day(rt, 50800, 2999, 1000, 2000, 5000, 2)?;
+    day(rt, 50800, 3000, 1000, 2000, 5000, 2)?;
+    day(rt, 50800, 3001, 1000, 2000, 5000, 2)?;
+    day(rt, 1000, 3999, 1000, 2000, 5000, 2)?;
+    day(rt, 1000, 4000, 1000, 2000, 5000, 2)?;
+    day(rt, 1000, 4001, 1000, 2000, 5000, 2)
 }

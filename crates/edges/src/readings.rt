@@ -1,67 +1,76 @@
 // Number 12: the text of a reading.
 use crate::{plots, show};
 use cell::Reading;
+use std::io;
 
 // The line of a reading.
-fn again(r: Reading) {
+fn again(rt: &impl Print, r: Reading) -> io::Result<()> {
     let mut buf = [0u8; 300];
     let w = text::reading::write(r, &mut buf);
-    show::line(&buf, w.len);
+    show::line(rt, &buf, w.len)
 }
 
 // A reading, read from a text that stands between two bars, and its line.
-fn read(s: &[u8]) {
+fn read(rt: &impl Print, s: &[u8]) -> io::Result<()> {
     let x = text::reading::read(s);
-    io::write_all(1, b"|");
-    io::write_all(1, s);
+    print!(rt; "|")?;
+    rt.write_all(s)?;
     show::form(
+        rt,
         b"|code=# taken=# line=#\n  ",
         &[x.number as u64, x.taken as u64, x.line as u64],
-    );
-    again(x.reading);
+    )?;
+    again(rt, x.reading)
 }
 
 // The example's reading, written into a buffer of zeros.
-fn write(buf: &mut [u8]) {
+fn write(rt: &impl Print, buf: &mut [u8]) -> io::Result<()> {
     let w = text::reading::write(plots::reading(), buf);
     show::form(
+        rt,
         b"a reading, written into # bytes: code=# length=#\n",
         &[buf.len() as u64, w.number as u64, w.len as u64],
-    );
+    )
 }
 
 // A line, and what makes it malformed: a leading zero, no end, a head in upper case, no text.
-fn reading() {
+fn reading(rt: &impl Print) -> io::Result<()> {
     read(
+        rt,
         b"cell=0 life=0 count=0 rain=50800 irrig=0 septic=1000 etmin=2000 pet=5000 amc=2 head=410c0000\n",
-    );
+    )?;
     read(
+        rt,
         b"cell=0 life=0 count=0 rain=050800 irrig=0 septic=1000 etmin=2000 pet=5000 amc=2 head=410c0000\n",
-    );
+    )?;
     read(
+        rt,
         b"cell=0 life=0 count=0 rain=50800 irrig=0 septic=1000 etmin=2000 pet=5000 amc=2 head=410c0000",
-    );
+    )?;
     read(
+        rt,
         b"cell=0 life=0 count=0 rain=50800 irrig=0 septic=1000 etmin=2000 pet=5000 amc=2 head=410C0000\n",
-    );
-    read(b"");
+    )?;
+    read(rt, b"")
 }
 
 // A number that just fits 32 bits, with text after its line, and one that does not.
-fn numbers() {
+fn numbers(rt: &impl Print) -> io::Result<()> {
     read(
+        rt,
         b"cell=4294967295 life=0 count=0 rain=0 irrig=0 septic=0 etmin=0 pet=0 amc=0 head=7f800001\ncell=\n",
-    );
+    )?;
     read(
+        rt,
         b"cell=4294967296 life=0 count=0 rain=0 irrig=0 septic=0 etmin=0 pet=0 amc=0 head=7f800001\ncell=\n",
-    );
+    )
 }
 
-pub fn cases() {
-    reading();
-    numbers();
+pub fn cases(rt: &impl Print) -> io::Result<()> {
+    reading(rt)?;
+    numbers(rt)?;
     let mut exact = [0u8; 93];
     let mut short = [0u8; 92];
-    write(&mut exact);
-    write(&mut short);
+    write(rt, &mut exact)?;
+    write(rt, &mut short)
 }

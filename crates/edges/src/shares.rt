@@ -1,6 +1,7 @@
 // [5] Shares: both sides of their range in a step, a void and clearing, the first rain that runs off, and the key in a card's text.
 use crate::{plots, show};
 use cell::{Card, Entry, Notice};
+use std::io;
 
 // The example's card with this share.
 fn card(share: u32) -> Card {
@@ -10,18 +11,18 @@ fn card(share: u32) -> Card {
 }
 
 // The example's reading with this rain.
-fn storm(share: u32, rain: u32) {
-    show::form(b"share=# rain=#", &[share as u64, rain as u64]);
+fn storm(rt: &impl Print, share: u32, rain: u32) -> io::Result<()> {
+    show::form(rt, b"share=# rain=#", &[share as u64, rain as u64])?;
     let soil = plots::soil();
     let mut rows = [0u32; 36];
     let mut r = plots::reading();
     r.rain = rain;
-    show::step(card(share), &soil, &mut rows, r);
+    show::step(rt, card(share), &soil, &mut rows, r)
 }
 
 // A void with water in slot 1, and then clearing the row.
-fn stored(share: u32) {
-    show::form(b"share=# slot 1 at 7, void", &[share as u64]);
+fn stored(rt: &impl Print, share: u32) -> io::Result<()> {
+    show::form(rt, b"share=# slot 1 at 7, void", &[share as u64])?;
     let soil = plots::soil();
     let mut rows = [0u32; 36];
     rows[2] = 7;
@@ -30,56 +31,58 @@ fn stored(share: u32) {
         life: 0,
         count: 0,
     };
-    show::entry(card(share), &soil, &mut rows, Entry::Void(first));
+    show::entry(rt, card(share), &soil, &mut rows, Entry::Void(first))?;
     rows[3] = 7;
     let number = site::clear(card(share), &mut rows);
-    show::form(b"clearing: code=#\n", &[number as u64]);
-    show::row(&rows, 2);
+    show::form(rt, b"clearing: code=#\n", &[number as u64])?;
+    show::row(rt, &rows, 2)
 }
 
 // What reading a card from this text gives.
-fn read(s: &[u8]) {
+fn read(rt: &impl Print, s: &[u8]) -> io::Result<()> {
     let mut soil = [0i64; 5];
     let x = text::card::read(s, &mut soil);
     show::form(
+        rt,
         b"  read: code=# line=# share=#\n",
         &[x.number as u64, x.line as u64, x.card.share as u64],
-    );
+    )
 }
 
 // The example's card with this share, written and read again.
-fn text(share: u32) {
+fn text(rt: &impl Print, share: u32) -> io::Result<()> {
     let soil = plots::soil();
     let mut buf = [0u8; 120];
     let w = text::card::write(card(share), &soil, &mut buf);
-    show::line(&buf, w.len);
-    read(&buf);
+    show::line(rt, &buf, w.len)?;
+    read(rt, &buf)
 }
 
-pub fn cases() {
-    storm(4, 50800);
-    storm(5, 50800);
-    storm(20, 50800);
-    storm(21, 50800);
+pub fn cases(rt: &impl Print) -> io::Result<()> {
+    storm(rt, 4, 50800)?;
+    storm(rt, 5, 50800)?;
+    storm(rt, 20, 50800)?;
+    storm(rt, 21, 50800)?;
     // The first rain that runs off.
-    storm(5, 3427);
-    storm(5, 3428);
-    storm(19, 12317);
-    storm(19, 12318);
-    storm(20, 12952);
-    storm(20, 12953);
-    stored(4);
-    stored(5);
-    stored(20);
-    stored(21);
+    storm(rt, 5, 3427)?;
+    storm(rt, 5, 3428)?;
+    storm(rt, 19, 12317)?;
+    storm(rt, 19, 12318)?;
+    storm(rt, 20, 12952)?;
+    storm(rt, 20, 12953)?;
+    stored(rt, 4)?;
+    stored(rt, 5)?;
+    stored(rt, 20)?;
+    stored(rt, 21)?;
     // Every share but 20 is written and read; 20 is what a card has that says none.
-    text(0);
-    text(19);
-    text(20);
-    text(21);
-    text(4294967295);
+    text(rt, 0)?;
+    text(rt, 19)?;
+    text(rt, 20)?;
+    text(rt, 21)?;
+    text(rt, 4294967295)?;
     read(
+        rt,
         b"cells=1 delays=0 share=20\n\
           top=10000000 etdepth=1500000 vadpor=200 leak=100000 cn=80\n",
-    );
+    )
 }

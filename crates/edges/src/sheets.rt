@@ -2,23 +2,24 @@
 use crate::show;
 use cell::{Amounts, Answer, Net, Refusal, Water};
 use site::Sheet;
+use std::io;
 
 // The line of a sheet.
-fn sheet(sheet: Sheet) {
+fn sheet(rt: &impl Print, sheet: Sheet) -> io::Result<()> {
     let mut buf = [0u8; 300];
     let w = text::print::sheet(sheet, &mut buf);
-    show::line(&buf, w.len);
+    show::line(rt, &buf, w.len)
 }
 
 // An answer, added to a sheet.
-fn add(before: Sheet, answer: Answer) {
-    io::write_all(1, b"sheet: ");
-    sheet(before);
-    io::write_all(1, b"  answer: ");
-    show::answer(0, answer);
+fn add(rt: &impl Print, before: Sheet, answer: Answer) -> io::Result<()> {
+    print!(rt; "sheet: ")?;
+    sheet(rt, before)?;
+    print!(rt; "  answer: ")?;
+    show::answer(rt, 0, answer)?;
     let added = before.add(answer);
-    show::form(b"  added: code=# ", &[added.number as u64]);
-    sheet(added.sheet);
+    show::form(rt, b"  added: code=# ", &[added.number as u64])?;
+    sheet(rt, added.sheet)
 }
 
 // A sheet of so many steps whose other sums are 0.
@@ -54,26 +55,38 @@ fn step_of(inflow: u64, recharge: i64, left: u64) -> Answer {
 }
 
 // An accepted answer, added to a sheet of so many steps with this sum of inflow and of recharge.
-fn next(steps: u64, sum: u64, net: i64, inflow: u64, recharge: i64, left: u64) {
-    add(sheet_of(steps, sum, net), step_of(inflow, recharge, left));
+fn next(
+    rt: &impl Print,
+    steps: u64,
+    sum: u64,
+    net: i64,
+    inflow: u64,
+    recharge: i64,
+    left: u64,
+) -> io::Result<()> {
+    add(
+        rt,
+        sheet_of(steps, sum, net),
+        step_of(inflow, recharge, left),
+    )
 }
 
-pub fn cases() {
-    add(sheet_of(3, 500, -200), Answer::Refused(Refusal::Old));
-    add(Sheet::new(), step_of(100, -40, 60));
+pub fn cases(rt: &impl Print) -> io::Result<()> {
+    add(rt, sheet_of(3, 500, -200), Answer::Refused(Refusal::Old))?;
+    add(rt, Sheet::new(), step_of(100, -40, 60))?;
     // Amounts: 30,000,000,000 is the most, `left` included.
-    next(0, 0, 0, 30000000000, 0, 0);
-    next(0, 0, 0, 30000000001, 0, 0);
-    next(0, 0, 0, 0, -30000000000, 0);
-    next(0, 0, 0, 0, -30000000001, 0);
-    next(0, 0, 0, 0, 0, 30000000000);
-    next(0, 0, 0, 0, 0, 30000000001);
+    next(rt, 0, 0, 0, 30000000000, 0, 0)?;
+    next(rt, 0, 0, 0, 30000000001, 0, 0)?;
+    next(rt, 0, 0, 0, 0, -30000000000, 0)?;
+    next(rt, 0, 0, 0, 0, -30000000001, 0)?;
+    next(rt, 0, 0, 0, 0, 0, 30000000000)?;
+    next(rt, 0, 0, 0, 0, 0, 30000000001)?;
     // Steps below 100,000,000, and sums of at most 30,000,000,000 for each.
-    next(99999999, 0, 0, 100, -40, 60);
-    next(100000000, 0, 0, 100, -40, 60);
-    next(2, 60000000000, 0, 100, -40, 60);
-    next(2, 60000000001, 0, 100, -40, 60);
-    next(2, 0, -60000000000, 100, -40, 60);
-    next(2, 0, -60000000001, 100, -40, 60);
-    next(0, 1, 0, 100, -40, 60);
+    next(rt, 99999999, 0, 0, 100, -40, 60)?;
+    next(rt, 100000000, 0, 0, 100, -40, 60)?;
+    next(rt, 2, 60000000000, 0, 100, -40, 60)?;
+    next(rt, 2, 60000000001, 0, 100, -40, 60)?;
+    next(rt, 2, 0, -60000000000, 100, -40, 60)?;
+    next(rt, 2, 0, -60000000001, 100, -40, 60)?;
+    next(rt, 0, 1, 0, 100, -40, 60)
 }

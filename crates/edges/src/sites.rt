@@ -3,10 +3,12 @@ ghost use Rattle.std.specs.Prelude.{◌≤◌};
 
 use crate::{plots, show};
 use cell::Entry;
+use std::io;
 
 // The example's reading for this cell, over these soil and row numbers.
-fn over(cells: u32, cell: u32, soil: &[i64], rows: &mut [u32]) {
+fn over(rt: &impl Print, cells: u32, cell: u32, soil: &[i64], rows: &mut [u32]) -> io::Result<()> {
     show::form(
+        rt,
         b"cells=# cell=#, soil numbers #, row numbers #",
         &[
             cells as u64,
@@ -14,14 +16,14 @@ fn over(cells: u32, cell: u32, soil: &[i64], rows: &mut [u32]) {
             soil.len() as u64,
             rows.len() as u64,
         ],
-    );
+    )?;
     let mut r = plots::reading();
     r.cell = cell;
-    show::step(plots::card_of(cells, 2), soil, rows, r);
+    show::step(rt, plots::card_of(cells, 2), soil, rows, r)
 }
 
 // The same over so many of the soil and row numbers of two plots like the example's.
-fn lent(cells: u32, cell: u32, soils: usize, numbers: usize)
+fn lent(rt: &impl Print, cells: u32, cell: u32, soils: usize, numbers: usize) -> io::Result<()>
     requires soils_bound { soils ≤ 11 }
     requires numbers_bound { numbers ≤ 73 }
 {
@@ -29,16 +31,17 @@ fn lent(cells: u32, cell: u32, soils: usize, numbers: usize)
         10000000, 1500000, 200, 100000, 80, 10000000, 1500000, 200, 100000, 80, 80,
     ];
     let mut rows = [0u32; 73];
-    over(cells, cell, &soil[..soils], &mut rows[..numbers]);
+    over(rt, cells, cell, &soil[..soils], &mut rows[..numbers])
 }
 
 // The example's reading for this cell of two plots, the second under this top and with so much water in slot 1.
-fn beside(cell: u32, top: i64, water: u32) {
+fn beside(rt: &impl Print, cell: u32, top: i64, water: u32) -> io::Result<()> {
     show::form(
+        rt,
         b"cells=2 cell=#, second plot: slot=#",
         &[cell as u64, water as u64],
-    );
-    show::signed(b" top=", top);
+    )?;
+    show::signed(rt, " top=", top)?;
     let soil = [
         10000000, 1500000, 200, 100000, 80, top, 1500000, 200, 100000, 80,
     ];
@@ -46,71 +49,73 @@ fn beside(cell: u32, top: i64, water: u32) {
     rows[38] = water;
     let mut r = plots::reading();
     r.cell = cell;
-    show::step(plots::card_of(2, 2), &soil, &mut rows, r);
-    show::row(&rows[36..], 2);
+    show::step(rt, plots::card_of(2, 2), &soil, &mut rows, r)?;
+    show::row(rt, &rows[36..], 2)
 }
 
 // A dry reading for this cell of 256 plots whose soil numbers are all 1; the last plot's row is printed.
-fn largest(cell: u32) {
-    show::form(b"cells=256 cell=#: ", &[cell as u64]);
+fn largest(rt: &impl Print, cell: u32) -> io::Result<()> {
+    show::form(rt, b"cells=256 cell=#: ", &[cell as u64])?;
     let soil = [1i64; 1280];
     let mut rows = [0u32; 9216];
     let mut r = plots::reading_at(0xf149_f2ca);
     r.cell = cell;
     show::answer(
+        rt,
         cell,
         site::step(plots::card_of(256, 2), &soil, &mut rows, Entry::Reading(r)),
-    );
-    show::row(&rows[9180..], 2);
+    )?;
+    show::row(rt, &rows[9180..], 2)
 }
 
 // Clears these rows under so many delays, and prints the first.
-fn cleared(delays: u32, rows: &mut [u32]) {
+fn cleared(rt: &impl Print, delays: u32, rows: &mut [u32]) -> io::Result<()> {
     let number = site::clear(plots::card_of(1, delays), rows);
     show::form(
+        rt,
         b"clearing, row numbers #, delays=#: code=#\n",
         &[rows.len() as u64, delays as u64, number as u64],
-    );
-    show::row(rows, 2);
+    )?;
+    show::row(rt, rows, 2)
 }
 
 // Clears so many row numbers under so many delays.
-fn clear(delays: u32, numbers: usize)
+fn clear(rt: &impl Print, delays: u32, numbers: usize) -> io::Result<()>
     requires { numbers ≤ 37 }
 {
     let mut rows = [7u32; 37];
-    cleared(delays, &mut rows[..numbers]);
+    cleared(rt, delays, &mut rows[..numbers])
 }
 
-pub fn cases() {
+pub fn cases(rt: &impl Print) -> io::Result<()> {
     // One number too few, one too many, and as many as the plots have.
-    lent(1, 0, 4, 36);
-    lent(1, 0, 6, 36);
-    lent(1, 0, 5, 35);
-    lent(1, 0, 5, 37);
-    lent(1, 0, 5, 36);
-    lent(2, 0, 9, 72);
-    lent(2, 0, 11, 72);
-    lent(2, 0, 10, 71);
-    lent(2, 0, 10, 73);
-    lent(2, 0, 10, 72);
+    lent(rt, 1, 0, 4, 36)?;
+    lent(rt, 1, 0, 6, 36)?;
+    lent(rt, 1, 0, 5, 35)?;
+    lent(rt, 1, 0, 5, 37)?;
+    lent(rt, 1, 0, 5, 36)?;
+    lent(rt, 2, 0, 9, 72)?;
+    lent(rt, 2, 0, 11, 72)?;
+    lent(rt, 2, 0, 10, 71)?;
+    lent(rt, 2, 0, 10, 73)?;
+    lent(rt, 2, 0, 10, 72)?;
     // The cell number at the number of cells, and below it.
-    lent(1, 1, 5, 36);
-    lent(2, 2, 10, 72);
-    beside(1, 10000000, 0);
+    lent(rt, 1, 1, 5, 36)?;
+    lent(rt, 2, 2, 10, 72)?;
+    beside(rt, 1, 10000000, 0)?;
     // A soil number or a row out of range: the named plot's, and another plot's.
-    beside(1, 10000000000, 0);
-    beside(1, 10000000001, 0);
-    beside(0, 10000000001, 0);
-    beside(1, 10000000, 4000000);
-    beside(1, 10000000, 4000001);
-    beside(0, 10000000, 4000001);
-    largest(255);
-    largest(256);
+    beside(rt, 1, 10000000000, 0)?;
+    beside(rt, 1, 10000000001, 0)?;
+    beside(rt, 0, 10000000001, 0)?;
+    beside(rt, 1, 10000000, 4000000)?;
+    beside(rt, 1, 10000000, 4000001)?;
+    beside(rt, 0, 10000000, 4000001)?;
+    largest(rt, 255)?;
+    largest(rt, 256)?;
     // Clearing; the check of the card comes first.
-    clear(31, 36);
-    clear(31, 37);
-    clear(2, 35);
-    clear(2, 37);
-    clear(2, 36);
+    clear(rt, 31, 36)?;
+    clear(rt, 31, 37)?;
+    clear(rt, 2, 35)?;
+    clear(rt, 2, 37)?;
+    clear(rt, 2, 36)
 }

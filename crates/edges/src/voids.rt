@@ -1,19 +1,22 @@
 // [3] Voids: what the queue gives up, both sides of each number that a void can meet, and its text.
 use crate::{plots, show};
 use cell::{Card, Entry, Notice};
+use std::io;
 
 // A void of this cell, life and count, given to a site.
-fn given(card: Card, soil: &[i64], rows: &mut [u32], n: Notice) {
+fn given(rt: &impl Print, card: Card, soil: &[i64], rows: &mut [u32], n: Notice) -> io::Result<()> {
     show::form(
+        rt,
         b"void cell=# life=# count=#",
         &[n.cell as u64, n.life as u64, n.count as u64],
-    );
-    show::entry(card, soil, rows, Entry::Void(n));
+    )?;
+    show::entry(rt, card, soil, rows, Entry::Void(n))
 }
 
 // The first void of a life, given to the plot that stands first.
-fn first(card: Card, soil: &[i64], rows: &mut [u32]) {
+fn first(rt: &impl Print, card: Card, soil: &[i64], rows: &mut [u32]) -> io::Result<()> {
     given(
+        rt,
         card,
         soil,
         rows,
@@ -22,24 +25,25 @@ fn first(card: Card, soil: &[i64], rows: &mut [u32]) {
             life: 0,
             count: 0,
         },
-    );
+    )
 }
 
 // A row with water in its first slots, under a card.
-fn waiting(card: Card, first_slot: u32, second_slot: u32) {
+fn waiting(rt: &impl Print, card: Card, first_slot: u32, second_slot: u32) -> io::Result<()> {
     show::form(
+        rt,
         b"# delays, slots # and #, ",
         &[card.delays as u64, first_slot as u64, second_slot as u64],
-    );
+    )?;
     let soil = plots::soil();
     let mut rows = [0u32; 36];
     rows[2] = first_slot;
     rows[3] = second_slot;
-    first(card, &soil, &mut rows);
+    first(rt, card, &soil, &mut rows)
 }
 
 // Thirty delays, with this in slot 1 and as much in slot 30 as it takes.
-fn deep(first_slot: u32) {
+fn deep(rt: &impl Print, first_slot: u32) -> io::Result<()> {
     let depths = plots::full_depths();
     let card = Card {
         cells: 1,
@@ -47,23 +51,24 @@ fn deep(first_slot: u32) {
         depths,
         share: 20,
     };
-    show::form(b"30 delays, slot 1 at #, ", &[first_slot as u64]);
+    show::form(rt, b"30 delays, slot 1 at #, ", &[first_slot as u64])?;
     let soil = plots::soil();
     let mut rows = [0u32; 36];
     rows[2] = first_slot;
     rows[31] = 2000000;
-    first(card, &soil, &mut rows);
+    first(rt, card, &soil, &mut rows)
 }
 
 // A void of this life and count, on a row of that life and next count.
-fn turn(row_life: u32, next: u32, life: u32, count: u32) {
-    show::form(b"row (#,#), ", &[row_life as u64, next as u64]);
+fn turn(rt: &impl Print, row_life: u32, next: u32, life: u32, count: u32) -> io::Result<()> {
+    show::form(rt, b"row (#,#), ", &[row_life as u64, next as u64])?;
     let soil = plots::soil();
     let mut rows = [0u32; 36];
     rows[0] = row_life;
     rows[1] = next;
     rows[2] = 700;
     given(
+        rt,
         plots::card(),
         &soil,
         &mut rows,
@@ -72,52 +77,53 @@ fn turn(row_life: u32, next: u32, life: u32, count: u32) {
             life,
             count,
         },
-    );
+    )
 }
 
 // Numbers 6 and 7, row life 3, next 7; then the ends of lives and counts: 8 by the void.
-fn turns() {
-    turn(3, 7, 3, 6);
-    turn(3, 7, 3, 7);
-    turn(3, 7, 3, 8);
-    turn(3, 7, 5, 1);
-    turn(3, 7, 5, 0);
-    turn(3, 7, 2, 900);
-    turn(0, 0, 65535, 0);
-    turn(0, 0, 65536, 0);
-    turn(0, 999999, 0, 999999);
-    turn(0, 1000000, 0, 1000000);
-    turn(0, 1000000, 1, 0);
+fn turns(rt: &impl Print) -> io::Result<()> {
+    turn(rt, 3, 7, 3, 6)?;
+    turn(rt, 3, 7, 3, 7)?;
+    turn(rt, 3, 7, 3, 8)?;
+    turn(rt, 3, 7, 5, 1)?;
+    turn(rt, 3, 7, 5, 0)?;
+    turn(rt, 3, 7, 2, 900)?;
+    turn(rt, 0, 0, 65535, 0)?;
+    turn(rt, 0, 0, 65536, 0)?;
+    turn(rt, 0, 999999, 0, 999999)?;
+    turn(rt, 0, 1000000, 0, 1000000)?;
+    turn(rt, 0, 1000000, 1, 0)
 }
 
 // Number 1: a card of no plots.
-fn no_plots() {
+fn no_plots(rt: &impl Print) -> io::Result<()> {
     let soil = plots::soil();
     let mut rows = [0u32; 36];
-    io::write_all(1, b"no plots, ");
-    first(plots::card_of(0, 2), &soil, &mut rows);
+    print!(rt; "no plots, ")?;
+    first(rt, plots::card_of(0, 2), &soil, &mut rows)
 }
 
 // Number 2: a soil number or a row number is lacking.
-fn short_soil() {
+fn short_soil(rt: &impl Print) -> io::Result<()> {
     let soil = [10000000i64, 1500000, 200, 100000];
     let mut rows = [0u32; 36];
-    io::write_all(1, b"4 soil numbers, ");
-    first(plots::card(), &soil, &mut rows);
+    print!(rt; "4 soil numbers, ")?;
+    first(rt, plots::card(), &soil, &mut rows)
 }
 
-fn short_rows() {
+fn short_rows(rt: &impl Print) -> io::Result<()> {
     let soil = plots::soil();
     let mut rows = [0u32; 35];
-    io::write_all(1, b"35 row numbers, ");
-    first(plots::card(), &soil, &mut rows);
+    print!(rt; "35 row numbers, ")?;
+    first(rt, plots::card(), &soil, &mut rows)
 }
 
 // Number 3: a plot too many.
-fn another_plot() {
+fn another_plot(rt: &impl Print) -> io::Result<()> {
     let soil = plots::soil();
     let mut rows = [0u32; 36];
     given(
+        rt,
         plots::card(),
         &soil,
         &mut rows,
@@ -126,19 +132,19 @@ fn another_plot() {
             life: 0,
             count: 0,
         },
-    );
+    )
 }
 
 // Number 4: an etdepth of 0.
-fn no_etdepth() {
+fn no_etdepth(rt: &impl Print) -> io::Result<()> {
     let soil = [10000000i64, 0, 200, 100000, 80];
     let mut rows = [0u32; 36];
-    io::write_all(1, b"etdepth 0, ");
-    first(plots::card(), &soil, &mut rows);
+    print!(rt; "etdepth 0, ")?;
+    first(rt, plots::card(), &soil, &mut rows)
 }
 
 // A gauge that froze: its reading is refused, the next day's is a gap, the void uses up the count, and the next day's is accepted.
-fn frozen() {
+fn frozen(rt: &impl Print) -> io::Result<()> {
     let card = plots::card();
     let soil = plots::soil();
     let mut rows = [0u32; 36];
@@ -146,42 +152,44 @@ fn frozen() {
     broken.rain = 1000001;
     let mut later = plots::reading();
     later.count = 1;
-    io::write_all(1, b"a frozen gauge");
-    show::step(card, &soil, &mut rows, broken);
-    io::write_all(1, b"the next day");
-    show::step(card, &soil, &mut rows, later);
-    first(card, &soil, &mut rows);
-    io::write_all(1, b"the next day");
-    show::step(card, &soil, &mut rows, later);
+    print!(rt; "a frozen gauge")?;
+    show::step(rt, card, &soil, &mut rows, broken)?;
+    print!(rt; "the next day")?;
+    show::step(rt, card, &soil, &mut rows, later)?;
+    first(rt, card, &soil, &mut rows)?;
+    print!(rt; "the next day")?;
+    show::step(rt, card, &soil, &mut rows, later)
 }
 
 // A void, read from a text that stands between two bars, and its line.
-fn read(s: &[u8]) {
+fn read(rt: &impl Print, s: &[u8]) -> io::Result<()> {
     let x = text::void::read(s);
     let mut buf = [0u8; 60];
     let w = text::void::write(x.notice, &mut buf);
-    io::write_all(1, b"|");
-    io::write_all(1, s);
+    print!(rt; "|")?;
+    rt.write_all(s)?;
     show::form(
+        rt,
         b"|code=# taken=# line=#\n  ",
         &[x.number as u64, x.taken as u64, x.line as u64],
-    );
-    show::line(&buf, w.len);
+    )?;
+    show::line(rt, &buf, w.len)
 }
 
 // An entry, read from such a text: whether it is refused, and its bytes.
-fn entry(s: &[u8]) {
+fn entry(rt: &impl Print, s: &[u8]) -> io::Result<()> {
     let x = text::entry::read(s);
-    io::write_all(1, b"|");
-    io::write_all(1, s);
+    print!(rt; "|")?;
+    rt.write_all(s)?;
     show::form(
+        rt,
         b"|an entry: code=# taken=# line=#\n",
         &[x.number as u64, x.taken as u64, x.line as u64],
-    );
+    )
 }
 
 // The longest void, written into a buffer of zeros.
-fn write(buf: &mut [u8]) {
+fn write(rt: &impl Print, buf: &mut [u8]) -> io::Result<()> {
     let n = Notice {
         cell: 4294967295,
         life: 4294967295,
@@ -189,49 +197,52 @@ fn write(buf: &mut [u8]) {
     };
     let w = text::void::write(n, buf);
     show::form(
+        rt,
         b"a void, written into # bytes: code=# length=#\n",
         &[buf.len() as u64, w.number as u64, w.len as u64],
-    );
+    )
 }
 
 // Two lines that are voids, and what makes one malformed: a leading zero, no end, a pair more, no `void`, a number of 33 bits, no text.
-fn texts() {
-    read(b"void cell=0 life=0 count=0\n");
-    read(b"void cell=4294967295 life=65536 count=1000000\nvoid\n");
-    read(b"void cell=00 life=0 count=0\n");
-    read(b"void cell=0 life=0 count=0");
-    read(b"void cell=0 life=0 count=0 rain=0\n");
-    read(b"cell=0 life=0 count=0\n");
-    read(b"void cell=4294967296 life=0 count=0\n");
-    read(b"");
-    entry(b"void cell=0 life=0 count=0\n");
+fn texts(rt: &impl Print) -> io::Result<()> {
+    read(rt, b"void cell=0 life=0 count=0\n")?;
+    read(rt, b"void cell=4294967295 life=65536 count=1000000\nvoid\n")?;
+    read(rt, b"void cell=00 life=0 count=0\n")?;
+    read(rt, b"void cell=0 life=0 count=0")?;
+    read(rt, b"void cell=0 life=0 count=0 rain=0\n")?;
+    read(rt, b"cell=0 life=0 count=0\n")?;
+    read(rt, b"void cell=4294967296 life=0 count=0\n")?;
+    read(rt, b"")?;
+    entry(rt, b"void cell=0 life=0 count=0\n")?;
     entry(
+        rt,
         b"cell=0 life=0 count=0 rain=50800 irrig=0 septic=1000 etmin=2000 pet=5000 amc=2 head=410c0000\n",
-    );
+    )?;
     entry(
+        rt,
         b"void cell=0 life=0 count=0 rain=50800 irrig=0 septic=1000 etmin=2000 pet=5000 amc=2 head=410c0000\n",
-    );
-    entry(b"Void cell=0 life=0 count=0\n");
+    )?;
+    entry(rt, b"Void cell=0 life=0 count=0\n")
 }
 
-pub fn cases() {
-    waiting(plots::card(), 100, 700);
-    waiting(plots::card(), 4000000, 2000000);
-    waiting(plots::card(), 4000001, 0);
-    waiting(plots::card_without_delays(), 0, 0);
-    waiting(plots::card_without_delays(), 1, 0);
-    deep(60000000);
-    deep(60000001);
-    turns();
-    no_plots();
-    short_soil();
-    short_rows();
-    another_plot();
-    no_etdepth();
-    frozen();
-    texts();
+pub fn cases(rt: &impl Print) -> io::Result<()> {
+    waiting(rt, plots::card(), 100, 700)?;
+    waiting(rt, plots::card(), 4000000, 2000000)?;
+    waiting(rt, plots::card(), 4000001, 0)?;
+    waiting(rt, plots::card_without_delays(), 0, 0)?;
+    waiting(rt, plots::card_without_delays(), 1, 0)?;
+    deep(rt, 60000000)?;
+    deep(rt, 60000001)?;
+    turns(rt)?;
+    no_plots(rt)?;
+    short_soil(rt)?;
+    short_rows(rt)?;
+    another_plot(rt)?;
+    no_etdepth(rt)?;
+    frozen(rt)?;
+    texts(rt)?;
     let mut exact = [0u8; 54];
     let mut short = [0u8; 53];
-    write(&mut exact);
-    write(&mut short);
+    write(rt, &mut exact)?;
+    write(rt, &mut short)
 }

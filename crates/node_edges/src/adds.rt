@@ -2,6 +2,7 @@
 use crate::show;
 use cell::{Entry, Notice, Reading};
 use outbox::Outbox;
+use std::io;
 
 // A reading of this cell, life and count.
 pub fn reading(cell: u32, life: u32, count: u32) -> Entry {
@@ -28,10 +29,8 @@ pub fn void(cell: u32, life: u32, count: u32) -> Entry {
 // An outbox of cell 7 that was given so many readings, one after the other.
 pub fn holding(count: u32) -> Outbox {
     let mut b = Outbox::fresh(7).outbox;
-    let mut i: u32 = 0;
-    while i < count {
+    for i in 0..count {
         b = b.add(reading(7, 0, i)).outbox;
-        i += 1;
     }
     b
 }
@@ -49,42 +48,46 @@ pub fn at(life: u32, next: u32) -> Outbox {
     }
 }
 
-fn fresh() {
-    show::given(b"fresh cell 0", Outbox::fresh(0));
-    show::given(b"fresh cell 255", Outbox::fresh(255));
-    show::given(b"fresh cell 256", Outbox::fresh(256));
+fn fresh(rt: &impl Print) -> io::Result<()> {
+    show::given(rt, "fresh cell 0", Outbox::fresh(0))?;
+    show::given(rt, "fresh cell 255", Outbox::fresh(255))?;
+    show::given(rt, "fresh cell 256", Outbox::fresh(256))?;
+    Ok(())
 }
 
 // The next entry, and one that differs in its cell, its life or its count.
-fn next() {
+fn next(rt: &impl Print) -> io::Result<()> {
     let b = holding(3);
-    show::given(b"three held, the next reading", b.add(reading(7, 0, 3)));
-    show::given(b"three held, the next void", b.add(void(7, 0, 3)));
-    show::given(b"another cell", b.add(reading(8, 0, 3)));
-    show::given(b"another life", b.add(reading(7, 1, 3)));
-    show::given(b"the last count again", b.add(reading(7, 0, 2)));
-    show::given(b"a count left out", b.add(void(7, 0, 4)));
+    show::given(rt, "three held, the next reading", b.add(reading(7, 0, 3)))?;
+    show::given(rt, "three held, the next void", b.add(void(7, 0, 3)))?;
+    show::given(rt, "another cell", b.add(reading(8, 0, 3)))?;
+    show::given(rt, "another life", b.add(reading(7, 1, 3)))?;
+    show::given(rt, "the last count again", b.add(reading(7, 0, 2)))?;
+    show::given(rt, "a count left out", b.add(void(7, 0, 4)))?;
+    Ok(())
 }
 
 // The last count, and the one behind it.
-fn last() {
+fn last(rt: &impl Print) -> io::Result<()> {
     let b = at(0, 999999);
-    let c = show::given(b"count 999999", b.add(reading(7, 0, 999999)));
-    show::given(b"count 1000000", c.add(reading(7, 0, 1000000)));
+    let c = show::given(rt, "count 999999", b.add(reading(7, 0, 999999)))?;
+    show::given(rt, "count 1000000", c.add(reading(7, 0, 1000000)))?;
+    Ok(())
 }
 
 // The thirtieth, the one after it, and what is not the next in a full outbox.
-fn full() {
-    let b = show::given(b"the thirtieth", holding(29).add(reading(7, 0, 29)));
-    show::given(b"one more", b.add(reading(7, 0, 30)));
-    show::given(b"one more, not the next", b.add(reading(7, 0, 31)));
-    let c = show::given(b"life 0, next 1", b.acknowledge(0, 1));
-    show::given(b"one more then", c.add(reading(7, 0, 30)));
+fn full(rt: &impl Print) -> io::Result<()> {
+    let b = show::given(rt, "the thirtieth", holding(29).add(reading(7, 0, 29)))?;
+    show::given(rt, "one more", b.add(reading(7, 0, 30)))?;
+    show::given(rt, "one more, not the next", b.add(reading(7, 0, 31)))?;
+    let c = show::given(rt, "life 0, next 1", b.acknowledge(0, 1))?;
+    show::given(rt, "one more then", c.add(reading(7, 0, 30)))?;
+    Ok(())
 }
 
-pub fn cases() {
-    fresh();
-    next();
-    last();
-    full();
+pub fn cases(rt: &impl Print) -> io::Result<()> {
+    fresh(rt)?;
+    next(rt)?;
+    last(rt)?;
+    full(rt)
 }

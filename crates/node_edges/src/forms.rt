@@ -2,23 +2,23 @@
 use crate::{adds, show};
 use cell::{Entry, Reading};
 use outbox::{Outbox, Place};
+use std::io;
 
 // Each call of an outbox: its number.
-fn calls(what: &[u8], b: Outbox) {
-    io::write_all(1, what);
-    io::write_all(1, b": offers");
-    show::offers(b);
-    show::given(b", adds", b.add(adds::reading(7, b.life, b.next)));
-    show::replaced(b"  replaces", b);
-    show::given(b"  hears", b.acknowledge(b.life, b.next));
-    show::given(b"  swaps", b.swap(65535));
+fn calls(rt: &impl Print, what: &str, b: Outbox) -> io::Result<()> {
+    print!(rt; "{what}: offers")?;
+    show::offers(rt, b)?;
+    show::given(rt, ", adds", b.add(adds::reading(7, b.life, b.next)))?;
+    show::replaced(rt, "  replaces", b)?;
+    show::given(rt, "  hears", b.acknowledge(b.life, b.next))?;
+    show::given(rt, "  swaps", b.swap(65535))?;
+    Ok(())
 }
 
 // Whether an outbox is in its form, by what it offers.
-fn look(what: &[u8], b: Outbox) {
-    io::write_all(1, what);
-    io::write_all(1, b":");
-    show::outbox(b);
+fn look(rt: &impl Print, what: &str, b: Outbox) -> io::Result<()> {
+    print!(rt; "{what}:")?;
+    show::outbox(rt, b)
 }
 
 // Two held, with other numbers.
@@ -67,29 +67,31 @@ fn spare(rain: u32, bits: u32) -> Entry {
     })
 }
 
-pub fn cases() {
-    calls(b"two held", numbers(7, 0, 2, 2));
-    calls(b"another cell's", numbers(8, 0, 2, 2));
-    calls(b"another life's", numbers(7, 1, 2, 2));
-    calls(b"counts not up to next", numbers(7, 0, 3, 2));
-    calls(b"one not counted", numbers(7, 0, 2, 1));
-    calls(b"one too many counted", numbers(7, 0, 2, 3));
-    look(b"31 counted", numbers(7, 0, 31, 31));
-    look(b"more held than made", numbers(7, 0, 1, 2));
-    look(b"life 65535", adds::at(65535, 0));
-    look(b"life 65536", adds::at(65536, 0));
-    look(b"next 1000000", adds::at(0, 1000000));
-    look(b"next 1000001", adds::at(0, 1000001));
-    look(b"a void among them", with(1, adds::void(7, 0, 1)));
-    look(b"a count twice", with(1, adds::void(7, 0, 0)));
-    look(b"a spare place of zeros", with(2, spare(0, 0)));
-    look(b"a spare place with rain", with(2, spare(1, 0)));
+pub fn cases(rt: &impl Print) -> io::Result<()> {
+    calls(rt, "two held", numbers(7, 0, 2, 2))?;
+    calls(rt, "another cell's", numbers(8, 0, 2, 2))?;
+    calls(rt, "another life's", numbers(7, 1, 2, 2))?;
+    calls(rt, "counts not up to next", numbers(7, 0, 3, 2))?;
+    calls(rt, "one not counted", numbers(7, 0, 2, 1))?;
+    calls(rt, "one too many counted", numbers(7, 0, 2, 3))?;
+    look(rt, "31 counted", numbers(7, 0, 31, 31))?;
+    look(rt, "more held than made", numbers(7, 0, 1, 2))?;
+    look(rt, "life 65535", adds::at(65535, 0))?;
+    look(rt, "life 65536", adds::at(65536, 0))?;
+    look(rt, "next 1000000", adds::at(0, 1000000))?;
+    look(rt, "next 1000001", adds::at(0, 1000001))?;
+    look(rt, "a void among them", with(1, adds::void(7, 0, 1)))?;
+    look(rt, "a count twice", with(1, adds::void(7, 0, 0)))?;
+    look(rt, "a spare place of zeros", with(2, spare(0, 0)))?;
+    look(rt, "a spare place with rain", with(2, spare(1, 0)))?;
     look(
-        b"a spare place with head bits 80000000",
+        rt,
+        "a spare place with head bits 80000000",
         with(2, spare(0, 0x8000_0000)),
-    );
+    )?;
     look(
-        b"a void in the last spare place",
+        rt,
+        "a void in the last spare place",
         with(29, adds::void(0, 0, 0)),
-    );
+    )
 }

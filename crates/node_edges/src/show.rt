@@ -1,69 +1,65 @@
 // What is printed of a case: what was asked, the number that came back, and the outbox as it then stands.
 use cell::Entry;
 use outbox::{Given, Offered, Outbox};
+use std::io;
 
-fn named(name: &[u8], number: u32) {
-    io::write_all(1, name);
-    io::print_decimal(1, number as u64);
+fn named(rt: &impl Print, name: &str, number: u32) -> io::Result<()> {
+    print!(rt; "{name}{number}")
 }
 
 // The cell, life and count of an entry, after its kind.
-fn entry(e: Entry) {
+fn entry(rt: &impl Print, e: Entry) -> io::Result<()> {
     match e {
         Entry::Reading(r) => {
-            named(b" reading cell=", r.cell);
-            named(b" life=", r.life);
-            named(b" count=", r.count);
+            named(rt, " reading cell=", r.cell)?;
+            named(rt, " life=", r.life)?;
+            named(rt, " count=", r.count)
         }
         Entry::Void(n) => {
-            named(b" void cell=", n.cell);
-            named(b" life=", n.life);
-            named(b" count=", n.count);
+            named(rt, " void cell=", n.cell)?;
+            named(rt, " life=", n.life)?;
+            named(rt, " count=", n.count)
         }
     }
 }
 
 // What an outbox offers.
-pub fn offers(b: Outbox) {
+pub fn offers(rt: &impl Print, b: Outbox) -> io::Result<()> {
     match b.offer() {
-        Offered::Oldest(e) => entry(e),
-        Offered::Empty => {
-            io::write_all(1, b" empty");
-        }
-        Offered::BadForm => {
-            io::write_all(1, b" 23");
-        }
+        Offered::Oldest(e) => entry(rt, e),
+        Offered::Empty => print!(rt; " empty"),
+        Offered::BadForm => print!(rt; " 23"),
     }
 }
 
 // The numbers of an outbox, and what it offers.
-pub fn outbox(b: Outbox) {
-    named(b"  life=", b.life);
-    named(b" next=", b.next);
-    named(b" held=", b.held);
-    io::write_all(1, b" offers");
-    offers(b);
-    io::write_all(1, b"\n");
+pub fn outbox(rt: &impl Print, b: Outbox) -> io::Result<()> {
+    named(rt, "  life=", b.life)?;
+    named(rt, " next=", b.next)?;
+    named(rt, " held=", b.held)?;
+    print!(rt; " offers")?;
+    offers(rt, b)?;
+    println!(rt)
 }
 
 // What a call gave.
-pub fn given(what: &[u8], g: Given) -> Outbox {
-    io::write_all(1, what);
-    named(b": ", g.number);
+pub fn given(rt: &impl Print, what: &str, g: Given) -> io::Result<Outbox> {
+    let number = g.number;
+    print!(rt; "{what}: {number}")?;
     let b = g.outbox;
-    outbox(b);
-    b
+    outbox(rt, b)?;
+    Ok(b)
 }
 
 // A void in place of the oldest.
-pub fn replaced(what: &[u8], b: Outbox) -> Outbox {
+pub fn replaced(rt: &impl Print, what: &str, b: Outbox) -> io::Result<Outbox> {
     let r = b.replace();
-    io::write_all(1, what);
-    named(b": ", r.number);
+    let number = r.number;
+    print!(rt; "{what}: {number}")?;
     if r.empty {
-        io::write_all(1, b" empty");
+        print!(rt; " empty")?;
     }
     let after = r.outbox;
-    outbox(after);
-    after
+    outbox(rt, after)?;
+    Ok(after)
 }

@@ -1,6 +1,8 @@
 // Runs both sides of each number that came with the sums of a row [6]: 15 and 16, what 2 and 5 ask of the longer rows, what collecting gives, and rows moved over and back.
 #![tactic(auto)]
 
+use std::io;
+
 mod carries;
 mod collects;
 mod days;
@@ -11,11 +13,11 @@ mod ranges;
 mod show;
 mod shrinks;
 
-fn main() {
-    full::cases();
-    carries::cases();
-    ranges::cases();
-    collects::cases();
-    grows::cases();
-    shrinks::cases();
+fn main(rt: HostRuntime) -> io::Result<()> {
+    full::cases(&rt)?;
+    carries::cases(&rt)?;
+    ranges::cases(&rt)?;
+    collects::cases(&rt)?;
+    grows::cases(&rt)?;
+    shrinks::cases(&rt)
 }

@@ -89,10 +89,8 @@ pub fn two() -> [u32; 72] {
 // A card with thirty delays, for so many plots.
 pub fn deep(cells: u32) -> Card {
     let mut depths = [0u32; 30];
-    let mut i: usize = 0;
-    while i < 30 {
+    for i in 0..30 {
         depths[i] = i as u32 + 1;
-        i += 1;
     }
     Card {
         cells,
@@ -105,10 +103,8 @@ pub fn deep(cells: u32) -> Card {
 // Rows of two plots in the old form, no two numbers alike: 1 to 32, then 33 to 64.
 pub fn old() -> [u32; 64] {
     let mut rows = [0u32; 64];
-    let mut i: usize = 0;
-    while i < 64 {
+    for i in 0..64 {
         rows[i] = i as u32 + 1;
-        i += 1;
     }
     rows
 }

@@ -1,132 +1,129 @@
 // What is printed of a case: what was asked, the number that came back, and the rows as they then stand.
 use crate::plots;
 use cell::{Answer, Card, Collected, Entry};
+use std::io;
 
 // A name and an amount of water.
-pub fn amount(name: &[u8], water: u64) {
-    io::write_all(1, name);
-    io::print_decimal(1, water);
+pub fn amount(rt: &impl Print, name: &str, water: u64) -> io::Result<()> {
+    print!(rt; "{name}{water}")
 }
 
 // A name and a number.
-pub fn named(name: &[u8], number: u32) {
-    amount(name, number as u64);
+pub fn named(rt: &impl Print, name: &str, number: u32) -> io::Result<()> {
+    amount(rt, name, number as u64)
 }
 
 // A row's life, next count and first two slots.
-fn queue(life: u32, next: u32, first_slot: u32, second_slot: u32) {
-    named(b"  life=", life);
-    named(b" next=", next);
-    named(b" slots=", first_slot);
-    named(b",", second_slot);
+fn queue(
+    rt: &impl Print,
+    life: u32,
+    next: u32,
+    first_slot: u32,
+    second_slot: u32,
+) -> io::Result<()> {
+    print!(rt; "  life={life} next={next} slots={first_slot},{second_slot}")
 }
 
 // The high and the low number of one of its sums.
-fn sum(name: &[u8], high: u32, low: u32) {
-    named(name, high);
-    named(b",", low);
+fn sum(rt: &impl Print, name: &str, high: u32, low: u32) -> io::Result<()> {
+    print!(rt; "{name}{high},{low}")
 }
 
 // The row that stands first.
-fn plot(rows: &[u32]) {
+fn plot(rt: &impl Print, rows: &[u32]) -> io::Result<()> {
     if 36 <= rows.len() {
-        queue(rows[0], rows[1], rows[2], rows[3]);
-        sum(b" runoff=", rows[32], rows[33]);
-        sum(b" drainage=", rows[34], rows[35]);
+        queue(rt, rows[0], rows[1], rows[2], rows[3])?;
+        sum(rt, " runoff=", rows[32], rows[33])?;
+        sum(rt, " drainage=", rows[34], rows[35])?;
     }
+    Ok(())
 }
 
 // The first two rows, where there are so many.
-fn site_rows(rows: &[u32]) {
-    plot(rows);
+fn site_rows(rt: &impl Print, rows: &[u32]) -> io::Result<()> {
+    plot(rt, rows)?;
     if 72 <= rows.len() {
-        io::write_all(1, b" |");
-        plot(&rows[36..]);
+        print!(rt; " |")?;
+        plot(rt, &rows[36..])?;
     }
-    io::write_all(1, b"\n");
+    println!(rt)
 }
 
 // The number of an answer, its runoff and its drain.
-fn answered(answer: Answer) {
+fn answered(rt: &impl Print, answer: Answer) -> io::Result<()> {
     let a = cell::amounts_of(answer);
-    named(b": ", cell::number_of(answer));
-    amount(b" runoff=", a.runoff.0);
-    amount(b" drain=", a.drain.0);
+    named(rt, ": ", cell::number_of(answer))?;
+    amount(rt, " runoff=", a.runoff.0)?;
+    amount(rt, " drain=", a.drain.0)
 }
 
 // One entry, given to the example's plot.
-pub fn step(what: &[u8], rows: &mut [u32], e: Entry) {
+pub fn step(rt: &impl Print, what: &str, rows: &mut [u32], e: Entry) -> io::Result<()> {
     let soil = plots::soil();
-    io::write_all(1, what);
-    answered(site::step(plots::card(1), &soil, rows, e));
-    site_rows(rows);
+    print!(rt; "{what}")?;
+    answered(rt, site::step(plots::card(1), &soil, rows, e))?;
+    site_rows(rt, rows)
 }
 
 // The number of a collection, and both sums.
-fn gathered(got: Collected) {
-    named(b": ", got.number);
-    amount(b" runoff=", got.runoff.0);
-    amount(b" drainage=", got.drain.0);
+fn gathered(rt: &impl Print, got: Collected) -> io::Result<()> {
+    named(rt, ": ", got.number)?;
+    amount(rt, " runoff=", got.runoff.0)?;
+    amount(rt, " drainage=", got.drain.0)
 }
 
 // A plot's sums, collected.
-pub fn collect(card: Card, rows: &mut [u32], cell: u32) {
-    named(b"collecting plot ", cell);
-    gathered(site::collect(card, rows, cell));
-    site_rows(rows);
+pub fn collect(rt: &impl Print, card: Card, rows: &mut [u32], cell: u32) -> io::Result<()> {
+    named(rt, "collecting plot ", cell)?;
+    gathered(rt, site::collect(card, rows, cell))?;
+    site_rows(rt, rows)
 }
 
 // All rows, cleared.
-pub fn clear(what: &[u8], card: Card, rows: &mut [u32]) {
-    io::write_all(1, what);
-    named(b", clearing: ", site::clear(card, rows));
-    site_rows(rows);
+pub fn clear(rt: &impl Print, what: &str, card: Card, rows: &mut [u32]) -> io::Result<()> {
+    print!(rt; "{what}")?;
+    named(rt, ", clearing: ", site::clear(card, rows))?;
+    site_rows(rt, rows)
 }
 
 // For how many plots, and how many numbers, a move is asked.
-pub fn asked(way: &[u8], cells: u32, from: usize, to: usize) {
-    named(b"plots ", cells);
-    amount(b", ", from as u64);
-    io::write_all(1, b" numbers");
-    amount(way, to as u64);
+pub fn asked(rt: &impl Print, way: &str, cells: u32, from: usize, to: usize) -> io::Result<()> {
+    print!(rt; "plots {cells}, {from} numbers{way}{to}")
 }
 
 // One number of a slice.
-fn one(number: u32) {
-    named(b" ", number);
+fn one(rt: &impl Print, number: u32) -> io::Result<()> {
+    named(rt, " ", number)
 }
 
 // The numbers of a slice.
-fn numbers(slice: &[u32]) {
-    let mut i = 0;
-    while i < slice.len() {
-        one(slice[i]);
-        i += 1;
+fn numbers(rt: &impl Print, slice: &[u32]) -> io::Result<()> {
+    for number in slice {
+        one(rt, *number)?;
     }
+    Ok(())
 }
 
 // How many numbers of a slice are 7.
 fn sevens(slice: &[u32]) -> usize {
     let mut n: usize = 0;
-    let mut i = 0;
-    while i < slice.len() {
-        if slice[i] == 7 {
+    for number in slice {
+        if *number == 7 {
             n += 1;
         }
-        i += 1;
     }
     n
 }
 
 // What a move gave, and the slice into which it writes: its numbers, or how many are still the 7 that it was filled with.
-pub fn moved(number: u32, slice: &[u32]) {
-    named(b": ", number);
+pub fn moved(rt: &impl Print, number: u32, slice: &[u32]) -> io::Result<()> {
+    named(rt, ": ", number)?;
     if number == 0 {
-        numbers(slice);
+        numbers(rt, slice)?;
     } else {
-        amount(b", ", sevens(slice) as u64);
-        amount(b" of ", slice.len() as u64);
-        io::write_all(1, b" still 7");
+        let still = sevens(slice);
+        let len = slice.len();
+        print!(rt; ", {still} of {len} still 7")?;
     }
-    io::write_all(1, b"\n");
+    println!(rt)
 }
