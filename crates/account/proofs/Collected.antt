@@ -18,14 +18,14 @@ use Rattle.cell.specs.declared.Refusal.TheVariants.{FullSums}
 use Rattle.cell.specs.Ranges.{card_ok, row_width, cell_of}
 use Rattle.cell.specs.RangeLaws.{cleared_sum}
 use Rattle.cell.specs.Sums.{front_width, runoff_at, drain_at, sum_limit, sum_of}
-use Rattle.cell.specs.SumLaws.{short_sum}
+use Rattle.cell.proofs.SumLaws.{short_sum}
 use Rattle.cell.specs.Step.{answer_of, new_row}
-use Rattle.cell.specs.AnswerLaws.{runoff_after, drain_after, amounts_in, room_enough}
+use Rattle.cell.proofs.AnswerLaws.{runoff_after, drain_after, amounts_in, room_enough}
 use Rattle.cell.specs.Collect.{collected_by, list_by}
 use Rattle.site.specs.Rows.{part_at}
 use Rattle.site.specs.RowsLaws.{part_length, room}
 use Rattle.site.specs.Site.{soil_width, site_answer, site_rows, SiteGives, ClearGives}
-use Rattle.site.specs.SiteLaws.{card_was, rows_long, rows_length, rows_stay, row_answer, own_row, other_row, full_card, full_reached}
+use Rattle.site.proofs.SiteLaws.{card_was, rows_long, rows_length, rows_stay, row_answer, own_row, other_row, full_card, full_reached}
 use Rattle.site.specs.Forms.{grow_number, grown_rows, GrowGives, shrink_number, shrunk_rows, ShrinkGives, collecting_number, collected_rows, SumsGive}
 use Rattle.site.specs.FormLaws.{grow_card, grow_long, grown_length, grown_sum, shrink_card, shrink_long, shrunk_length, shrunk_empty, collect_card, collect_long, collect_length, own_sums, other_kept}
 use Rattle.account.specs.Ledger.{History, sum}

@@ -17,15 +17,15 @@ use Rattle.cell.specs.declared.checks.Verdict.TheVariants.{Fine}
 use Rattle.cell.specs.Ranges.{card_ok, soil_ok, soil_of, row_width, row_ok, notice_ok, notice_of, cell_of, life_of, next_of, queue_of}
 use Rattle.cell.specs.RangeLaws.{cleared_queue}
 use Rattle.cell.specs.Refusals.{fields_verdict}
-use Rattle.cell.specs.CheckLaws.{InOrder, order_old, order_gap}
+use Rattle.cell.proofs.CheckLaws.{InOrder, order_old, order_gap}
 use Rattle.cell.specs.Step.{amounts_by, shift_amounts, sums_take, answer_of, step_delay}
-use Rattle.cell.specs.AnswerLaws.{lets_through, moves, void_through, void_row, void_amounts, void_draws}
+use Rattle.cell.proofs.AnswerLaws.{lets_through, moves, void_through, void_row, void_amounts, void_draws}
 use Rattle.cell.specs.Queue.{slot, just, shifted}
 use Rattle.cell.specs.QueueLaws.{just_none, just_same}
 use Rattle.cell.specs.Sums.{runoff_at, drain_at, added}
 use Rattle.site.specs.Rows.{part_at, put_at}
 use Rattle.site.specs.Site.{soil_width, soil_fits, rows_fit, cell_fits, site_answer, site_rows, SiteGives, ClearGives}
-use Rattle.site.specs.SiteLaws.{gives, reached, rows_reached, cleared_part}
+use Rattle.site.proofs.SiteLaws.{gives, reached, rows_reached, cleared_part}
 use Rattle.account.specs.Ledger.{Kept, InSequence, put, drew, freed}
 use Rattle.account.specs.Run.{Call, Ran, done, then, row_of, step_of, history_of}
 use Rattle.account.proofs.Induction.{start, step, along}

@@ -6,7 +6,7 @@ use native.Mathlib.Omega.{arith}
 use native.Mathlib.Decide.{dec_le, ℕ_discrete}
 use Rattle.cell.specs.Queue.{slot, just}
 use Rattle.cell.specs.QueueLaws.{just_same, just_other, slot_none}
-use Rattle.cell.specs.AnswerLaws.{Moves}
+use Rattle.cell.proofs.AnswerLaws.{Moves}
 use Rattle.account.specs.Ledger.{Step, put, drew, freed, stands}
 
 -- both numbers moved on by n

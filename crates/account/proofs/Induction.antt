@@ -16,10 +16,10 @@ use Rattle.cell.specs.declared.Entry.{Entry}
 use Rattle.cell.specs.Ranges.{cell_of}
 use Rattle.cell.specs.QueueLaws.{slot_cleared, total_cleared}
 use Rattle.cell.specs.Step.{answer_of, new_row}
-use Rattle.cell.specs.AnswerLaws.{Moves}
+use Rattle.cell.proofs.AnswerLaws.{Moves}
 use Rattle.site.specs.Rows.{part_at}
 use Rattle.site.specs.Site.{soil_width, site_answer, site_rows}
-use Rattle.site.specs.SiteLaws.{row_answer, own_row, other_row, rows_stay}
+use Rattle.site.proofs.SiteLaws.{row_answer, own_row, other_row, rows_stay}
 use Rattle.account.specs.Ledger.{Step, History, Kept, net_recharge}
 use Rattle.account.specs.Run.{Call, Ran, done, then, row_of, step_of, noted, history_of}
 use Rattle.account.proofs.Sums.{up_stands}

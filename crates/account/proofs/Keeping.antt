@@ -18,13 +18,13 @@ use Rattle.cell.specs.declared.Entry.{Entry}
 use Rattle.cell.specs.Ranges.{card_ok, row_width, queue_of}
 use Rattle.cell.specs.RangeLaws.{card_in, cleared_queue}
 use Rattle.cell.specs.Step.{answer_of, new_row}
-use Rattle.cell.specs.AnswerLaws.{moves}
+use Rattle.cell.proofs.AnswerLaws.{moves}
 use Rattle.cell.specs.Sums.{front_width}
-use Rattle.cell.specs.SumLaws.{SameFront, front_queue}
+use Rattle.cell.proofs.SumLaws.{SameFront, front_queue}
 use Rattle.cell.specs.Collect.{collected_by, list_by}
 use Rattle.site.specs.Rows.{part_at}
 use Rattle.site.specs.Site.{site_answer, site_rows, SiteGives, clear_rows, ClearGives}
-use Rattle.site.specs.SiteLaws.{gives, card_was, rows_long, rows_length, rows_stay, clear_passed, cleared_part}
+use Rattle.site.proofs.SiteLaws.{gives, card_was, rows_long, rows_length, rows_stay, clear_passed, cleared_part}
 use Rattle.site.specs.Forms.{grow_number, grown_rows, GrowGives, shrink_number, shrunk_rows, ShrinkGives, collecting_number, collected_rows, SumsGive}
 use Rattle.site.specs.FormLaws.{grow_card, grown_front, grown_length, grow_long, shrink_card, shrunk_front, shrunk_length, shrink_long, collect_card, collect_front, collect_long, collect_length, other_kept}
 use Rattle.account.specs.Ledger.{History, Kept, InSequence}

@@ -15,7 +15,7 @@ use Rattle.cell.specs.declared.Entry.{Entry}
 use Rattle.cell.specs.Ranges.{life_of, next_of}
 use Rattle.cell.specs.RangeLaws.{cleared_life, cleared_next}
 use Rattle.cell.specs.Step.{answer_of, new_row}
-use Rattle.cell.specs.AnswerLaws.{was_in_order, life_after, next_after}
+use Rattle.cell.proofs.AnswerLaws.{was_in_order, life_after, next_after}
 use Rattle.account.specs.Ledger.{Step, History, each, Follows, InSequence, counts_in, down_from}
 use Rattle.account.specs.Run.{step_of}
 

@@ -6,3 +6,8 @@ pub mod Parts
 pub mod Verdict
 pub mod Rooms
 pub mod Settled
+pub mod AnswerLaws
+pub mod CheckLaws
+pub mod StepLaws
+pub mod StillLaws
+pub mod SumLaws

@@ -18,7 +18,7 @@ use Rattle.cell.specs.Parts.{Checked, wetting_of, Pulls, Settling, settled_of, P
 use Rattle.cell.specs.Queue.{total, shifted, joined}
 use Rattle.cell.specs.QueueLaws.{SlotsIn, joined_le, total_in, total_shifted, total_spared, length_shifted, length_spared}
 use Rattle.cell.specs.Step.{given, release, delay, lack, draws, etstor, etsat, drain, stored, direct, recharge, queue_after, step_amounts}
-use Rattle.cell.specs.StepLaws.{delay_most, lack_pet, drain_most, sunk_most, stored_most, etstor_lack, release_most}
+use Rattle.cell.proofs.StepLaws.{delay_most, lack_pet, drain_most, sunk_most, stored_most, etstor_lack, release_most}
 
 module _ (card : Card) (soil : Soil) (r : Reading) (d : Depth) (h : Checked card soil r d) (q : List ℕ) (long : length q ≡ card.delays) (inside : SlotsIn card.delays q) where
   module _ (w : Wetting) (ew : w ≡ wetting_of card soil r d) where

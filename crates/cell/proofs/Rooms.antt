@@ -20,9 +20,9 @@ use Rattle.cell.specs.Ranges.{queue_of, row_ok}
 use Rattle.cell.specs.RangeLaws.{row_in}
 use Rattle.cell.specs.Parts.{Checked, wetting_of, AcceptGives}
 use Rattle.cell.specs.Step.{runoff, drain, step_amounts, row_moved, runoff_by, drain_by, row_after, sums_take}
-use Rattle.cell.specs.StepLaws.{runoff_given, given_most, drain_most, moved_length, moved_sum}
+use Rattle.cell.proofs.StepLaws.{runoff_given, given_most, drain_most, moved_length, moved_sum}
 use Rattle.cell.specs.Sums.{runoff_at, drain_at, sum_limit, sum_of, with_sum, added}
-use Rattle.cell.specs.SumLaws.{with_length, with_apart}
+use Rattle.cell.proofs.SumLaws.{with_length, with_apart}
 
 module _ (card : Card) (soil : Soil) (r : Reading) (d : Depth) (h : Checked card soil r d) (row : List ℕ) (ok : row_ok card row ≡ true)
     (w : Wetting) (ew : w ≡ wetting_of card soil r d) where

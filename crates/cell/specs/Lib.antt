@@ -11,15 +11,10 @@ pub mod Collect
 pub mod Cases
 -- laws of these, for the crates above
 pub mod RangeLaws
-pub mod SumLaws
-pub mod CheckLaws
 pub mod QueueLaws
 pub mod RuleLaws
-pub mod StepLaws
-pub mod AnswerLaws
 pub mod CollectLaws
 -- [3] a void, as the code steps it
-pub mod StillLaws
 -- [2] the search that was retired
 pub mod ShallowFirst
 -- [5] the one share that there was

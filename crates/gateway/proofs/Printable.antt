@@ -14,7 +14,7 @@ use mir.Val.{SFits}
 use Rattle.form.specs.Signed.{is_neg}
 use Rattle.form.specs.FormLaws.{and_1, and_2}
 use Rattle.text.specs.Printed.{most, amounts_printable, sheet_printable}
-use Rattle.text.specs.PrintLaws.{small_amounts, small_sums}
+use Rattle.text.proofs.PrintLaws.{small_amounts, small_sums}
 use Rattle.gateway.specs.Shapes.{AllFit, amounts_from, sheet_from, signs_from, zeros, amounts_recharge, sheet_recharge}
 use Rattle.gateway.specs.Calls.{is_answer}
 

@@ -13,9 +13,9 @@ use lib.Seq.{sets, sets-eq}
 use Rattle.cell.specs.Ranges.{row_width}
 use Rattle.text.specs.declared.card.CardRead.{CardRead}
 use Rattle.text.specs.Cards.{parse, card_result, soil_result}
-use Rattle.text.specs.CardTexts.{cells_most, card_next, result_line, result_card, result_soil}
+use Rattle.text.proofs.CardTexts.{cells_most, card_next, result_line, result_card, result_soil}
 use Rattle.journal.specs.Book.{cleared_text, input_limit, book_of, room_for, BookGives}
-use Rattle.journal.specs.BookLaws.{book_most, book_read}
+use Rattle.journal.proofs.BookLaws.{book_most, book_read}
 use Rattle.journal.proofs.Lent.{rest_is}
 
 module _ (s b : List ℕ) where

@@ -3,3 +3,6 @@ pub mod Lent
 pub mod Turns
 pub mod Given
 pub mod Settled
+pub mod BookLaws
+pub mod EntryLaws
+pub mod LineNumbers

@@ -17,10 +17,10 @@ use Rattle.site.specs.Sheet.{no_steps, added_of}
 use Rattle.site.specs.SheetLaws.{SheetIn, sheet_none, sheet_added}
 use Rattle.text.specs.declared.entry.EntryRead.{EntryRead}
 use Rattle.text.specs.Voids.{read_entry}
-use Rattle.text.specs.LineLaws.{entry_takes}
+use Rattle.text.proofs.LineLaws.{entry_takes}
 use Rattle.text.specs.Printed.{answer_text, sheet_text}
 use Rattle.journal.specs.Book.{malformed_text, entries_text}
-use Rattle.journal.specs.BookLaws.{entries_end, entries_stop, entries_more}
+use Rattle.journal.proofs.BookLaws.{entries_end, entries_stop, entries_more}
 
 module _ (card : Card) (soil : List ℤ) (s : List ℕ) (whole out₀ : List ℕ) (lines : ℕ) where
   -- what is written so far, and the text of the entries that are left, come to the whole

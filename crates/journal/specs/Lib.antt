@@ -2,7 +2,5 @@
 pub mod Entries
 pub mod Book
 pub mod Cases
+
 -- laws of these
-pub mod BookLaws
-pub mod EntryLaws
-pub mod LineNumbers

@@ -16,14 +16,14 @@ use Rattle.cell.specs.declared.Answer.TheVariants.{Accepted, Refused}
 use Rattle.cell.specs.declared.Card.{Card}
 use Rattle.cell.specs.declared.Entry.{Entry}
 use Rattle.cell.specs.declared.Notice.{Notice}
-use Rattle.cell.specs.AnswerLaws.{was_in_order, life_after, next_after}
-use Rattle.cell.specs.CheckLaws.{InOrder}
+use Rattle.cell.proofs.AnswerLaws.{was_in_order, life_after, next_after}
+use Rattle.cell.proofs.CheckLaws.{InOrder}
 use Rattle.cell.specs.RangeLaws.{cleared_life, cleared_next, notice_ok_lem}
 use Rattle.cell.specs.Ranges.{card_ok, soil_ok, row_width, row_ok, life_of, next_of, notice_of, cell_of}
 use Rattle.cell.specs.Step.{new_row}
 use Rattle.site.specs.Rows.{part_at}
 use Rattle.site.specs.Site.{soil_width, soil_fits, rows_fit, cell_fits, site_answer, site_rows, SiteGives, ClearGives}
-use Rattle.site.specs.SiteLaws.{row_answer, own_row, other_row, rows_stay, cleared_part}
+use Rattle.site.proofs.SiteLaws.{row_answer, own_row, other_row, rows_stay, cleared_part}
 use Rattle.account.specs.Run.{Call, row_of}
 use Rattle.account.proofs.Demand3.{void_passes}
 use Rattle.outbox.specs.declared.Offered.TheVariants.{Oldest}
@@ -32,7 +32,7 @@ use Rattle.outbox.specs.declared.Place.{Place}
 use Rattle.outbox.specs.Outbox.{void_of, held_of, offer_of, replaced_of, fresh_of, is_next, swapped_of}
 use Rattle.outbox.specs.CallLaws.{Reaches}
 use Rattle.outbox.specs.Counts.{Among}
-use Rattle.outbox.specs.Kept.{InForm, oldest_is, oldest_in, void_offered}
+use Rattle.outbox.proofs.Kept.{InForm, oldest_is, oldest_in, void_offered}
 use Rattle.link.specs.Lists.{life_in, count_in, At, of_life, FirstPart}
 use Rattle.link.specs.Run.{Orderly, Moment, Ack, Run, Told, Fate, starts, first, making, learning}
 use Rattle.link.specs.Site.{accepts, Given, site_gateway}

@@ -16,7 +16,7 @@ use Rattle.cell.specs.Rules.{curve_of, storm_of, reach_of, delay_of, shallow_of,
 use Rattle.cell.specs.Step.{given, release, curve, storm, delay, runoff, etvad, lack, draws, etstor, etsat, drain, sunk, stored, direct, recharge, queue_after, step_amounts, shift_amounts, amounts_by, queue_by, row_moved, runoff_by, drain_by, row_after, sums_take, judged, final_of, answer_of, new_row}
 use Rattle.site.specs.Rows.{part_at, put_at}
 use Rattle.site.specs.Site.{soil_fits, rows_fit, cell_fits, refuse, site_answer, rows_by, site_rows}
-use Rattle.site.specs.SiteLaws.{gives}
+use Rattle.site.proofs.SiteLaws.{gives}
 use Rattle.account.specs.Run.{Call}
 use Rattle.outbox.specs.Outbox as box
 use Rattle.outbox.specs.Outbox.{void_of}

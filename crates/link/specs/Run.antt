@@ -2,7 +2,7 @@
 -- Each list of a moment is a history of what calls answered, in the order of the calls; none is the difference of others.
 use Rattle.std.specs.Prelude.{◌≡◌, Bool, true, false, cond, ◌⊎◌, List, [], ◌∷◌, ◌++◌, map, ℕ, ◌+◌, eqb}
 use Rattle.cell.specs.declared.Entry.{Entry}
-use Rattle.cell.specs.CheckLaws.{InOrder}
+use Rattle.cell.proofs.CheckLaws.{InOrder}
 use Rattle.cell.specs.Ranges.{notice_of, cell_of}
 use Rattle.outbox.specs.declared.Outbox.{Outbox}
 use Rattle.outbox.specs.declared.Place.{Place}

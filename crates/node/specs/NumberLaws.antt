@@ -13,7 +13,7 @@ use Rattle.outbox.specs.declared.Outbox.{Outbox}
 use Rattle.outbox.specs.declared.Place.{Place}
 use Rattle.outbox.specs.Outbox.{spare}
 use Rattle.outbox.specs.Counts.{Among}
-use Rattle.outbox.specs.Back.{Plain}
+use Rattle.outbox.proofs.Back.{Plain}
 use Rattle.node.specs.Numbers.{entry_width, zeros, is_entry, entry_from, entry_numbers, box_width, places_from, are_entries, place_numbers, all_entries, box_from, box_numbers}
 
 -- each number of a lent row fits its 32 bits

@@ -3,8 +3,6 @@ pub mod Outbox
 -- laws of these, for the crates above
 pub mod CallLaws
 pub mod Counts
-pub mod Kept
-pub mod Back
 pub mod Each
 -- what the laws and the code's own contracts lean on
 pub mod Laws

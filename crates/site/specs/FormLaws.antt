@@ -12,7 +12,7 @@ use Rattle.cell.specs.declared.Collected.{Collected}
 use Rattle.cell.specs.Ranges.{card_ok, form_ok, row_width, row_ok}
 use Rattle.cell.specs.RangeLaws.{row_in, card_in}
 use Rattle.cell.specs.Sums.{front_width, runoff_at, drain_at, sum_numbers, sum_of, no_sums, emptied}
-use Rattle.cell.specs.SumLaws.{SameFront, front_of, no_sum, none_held, none_told, form_moved, emptied_front, emptied_length, emptied_other, emptied_runoff, emptied_drain}
+use Rattle.cell.proofs.SumLaws.{SameFront, front_of, no_sum, none_held, none_told, form_moved, emptied_front, emptied_length, emptied_other, emptied_runoff, emptied_drain}
 use Rattle.cell.specs.Water.{water}
 use Rattle.cell.specs.Collect.{collect_number, collected_by, list_by, CollectGives}
 use Rattle.cell.specs.CollectLaws.{collect_number_lem}

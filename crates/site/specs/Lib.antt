@@ -5,7 +5,6 @@ pub mod Moves
 pub mod Forms
 pub mod Sheet
 pub mod RowsLaws
-pub mod SiteLaws
 pub mod MoveLaws
 pub mod FormLaws
 pub mod SheetLaws

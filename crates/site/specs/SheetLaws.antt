@@ -5,19 +5,12 @@ use Rattle.std.proofs.Math.IntN.{+ℤ_assoc, +ℤ_idr}
 use Rattle.cell.specs.declared.Amounts.{Amounts}
 use Rattle.cell.specs.declared.Answer.{Answer}
 use Rattle.cell.specs.declared.Answer.TheVariants.{Accepted, Refused}
-use Rattle.cell.specs.declared.Card.{Card}
-use Rattle.cell.specs.declared.Entry.{Entry}
-use Rattle.cell.specs.Ranges.{row_width, cell_of}
 use Rattle.cell.specs.declared.Refusal.{Refusal}
 use Rattle.cell.specs.Bounds.{abs_add}
 use Rattle.cell.specs.Conj.{told}
-use Rattle.cell.specs.Refusals.{not_addable, amounts_of}
-use Rattle.cell.specs.AnswerLaws.{AmountsIn, amounts_in}
+use Rattle.cell.specs.Refusals.{not_addable}
 use Rattle.site.specs.declared.Sheet.{Sheet}
 use Rattle.site.specs.declared.Added.{Added}
-use Rattle.site.specs.Rows.{part_at}
-use Rattle.site.specs.Site.{soil_width, site_answer}
-use Rattle.site.specs.SiteLaws.{row_answer}
 use Rattle.site.specs.Sheet.{no_steps, amount_limit, step_limit, amounts_fit, sums_within, addable, plus_of, sheet_by, added_of, after_all}
 
 -- ---- the parts of the tests
@@ -279,39 +272,3 @@ sheet_added s (Accepted a) h = go (addable s (Accepted a)) refl
 -- from a sheet with no step on it
 pub from_none : (xs : List Answer) → AllWithin xs → accepted xs ≤ 100000000 → Holds no_steps xs (after_all no_steps xs)
 from_none xs w l = sums_hold no_steps xs sheet_none.sums w (omega arith)
-
--- amounts of a step are within the limit
-pub step_within : (a : Amounts) → AmountsIn a → AmountsWithin a
-step_within a h =
-    record {
-      inflow = omega (arith, h.inflow);
-      runoff = omega (arith, h.runoff);
-      etvad = omega (arith, h.plants);
-      etstor = omega (arith, h.plants);
-      etsat = omega (arith, h.plants);
-      drain = omega (arith, h.drain);
-      release = omega (arith, h.release);
-      stored = omega (arith, h.stored);
-      recharge = h.recharge;
-      left = omega (arith, h.left);
-    }
-
--- the amounts of whatever the site answers are within the limit
-pub site_within : (card : Card) (soil : List ℤ) (rows : List ℕ) (i : Entry) → AmountsWithin (amounts_of (site_answer card soil rows i))
-site_within card soil rows i = go (site_answer card soil rows i) refl
-  where
-    go : (x : Answer) → site_answer card soil rows i ≡ x → AmountsWithin (amounts_of x)
-    go (Accepted a) e = step_within a (amounts_in card (part_at soil_width (cell_of i) soil) (part_at (row_width card) (cell_of i) rows) i a (row_answer card soil rows i a e))
-    go (Refused why) e =
-        record {
-          inflow = omega arith;
-          runoff = omega arith;
-          etvad = omega arith;
-          etstor = omega arith;
-          etsat = omega arith;
-          drain = omega arith;
-          release = omega arith;
-          stored = omega arith;
-          recharge = omega arith;
-          left = omega arith;
-        }

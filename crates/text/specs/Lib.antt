@@ -7,12 +7,4 @@ pub mod Cards
 pub mod Printed
 pub mod Cases
 -- laws of these
-pub mod WrittenLaws
-pub mod ReadingLaws
-pub mod VoidLaws
-pub mod CardLaws
-pub mod CardTexts
-pub mod CardEnds
 pub mod BehindLaws
-pub mod LineLaws
-pub mod PrintLaws

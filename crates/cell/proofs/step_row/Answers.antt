@@ -20,9 +20,9 @@ use Rattle.cell.specs.declared.checks.Verdict.TheVariants.{Fine, Bad}
 use Rattle.cell.specs.Parts.{Checked, AcceptGives}
 use Rattle.cell.specs.Ranges.{card_ok, soil_ok, soil_of, queue_of, life_of, next_of}
 use Rattle.cell.specs.Refusals.{refusal_number, number_of, nothing, amounts_of, unless, verdict_of}
-use Rattle.cell.specs.CheckLaws.{Passed, passed, checked, verdict_card}
+use Rattle.cell.proofs.CheckLaws.{Passed, passed, checked, verdict_card}
 use Rattle.cell.specs.Still.{reading_of}
-use Rattle.cell.specs.StillLaws.{verdict_as, amounts_as, row_as, take_as}
+use Rattle.cell.proofs.StillLaws.{verdict_as, amounts_as, row_as, take_as}
 use Rattle.cell.specs.Step.{amounts_by, row_after, sums_take, judged, final_of, answer_of, new_row, StepGives}
 use mathlib.Core.Bool.{Bool, true, false, cond}
 use Rattle.cell.specs.declared.Refusal.TheVariants.{BadSoil, FullSums}

@@ -1,6 +1,6 @@
 use mathlib.Core.Path.{ap, ◌∙◌}
 use Rattle.cell.specs.Refusals.{number_of, amounts_of}
-use Rattle.site.specs.SheetLaws.{site_within}
+use Rattle.site.proofs.SheetSteps.{site_within}
 use Rattle.gateway.specs.Shapes.{amount_numbers}
 use Rattle.gateway.proofs.give.Goals as goal
 

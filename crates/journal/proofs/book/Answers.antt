@@ -2,8 +2,8 @@ use Rattle.journal.proofs.Given.{no_room, book_fits, written, line_is, few, insi
 use lib.Seq.{sets, length-take-le}
 use Prim.Native.Nat.{ℕ}
 use Rattle.journal.proofs.Lent.{rest_is}
-use Rattle.journal.specs.BookLaws.{book_long, book_malformed}
-use Rattle.text.specs.CardTexts.{line_most}
+use Rattle.journal.proofs.BookLaws.{book_long, book_malformed}
+use Rattle.text.proofs.CardTexts.{line_most}
 use lib.ListN.{length, replicate, length-drop, length-replicate}
 use mathlib.Core.Path.{sym, ap, ◌∙◌}
 use native.Mathlib.Nat.{zero-add}

@@ -1,5 +1,5 @@
 use native.Mathlib.Nat.{zero-add}
-use Rattle.journal.specs.BookLaws.{cleared_code, cleared_more}
+use Rattle.journal.proofs.BookLaws.{cleared_code, cleared_more}
 use lib.ListN.{length}
 use mathlib.Core.Path.{sym, ap, ◌∙◌}
 use native.Mathlib.Omega.{arith}

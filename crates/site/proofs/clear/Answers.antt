@@ -1,7 +1,7 @@
 use mathlib.Core.Path.{sym, ◌∙◌}
 use borrow.Author.Tests.{eq-eqb, ne_eqb}
 use Rattle.site.specs.Site.{rows_fit}
-use Rattle.site.specs.SiteLaws.{clear_card, clear_long, clear_done}
+use Rattle.site.proofs.SiteLaws.{clear_card, clear_long, clear_done}
 use Rattle.site.proofs.clear.Goals as goal
 
 pub returns-then-not-card_ok : goal.returns-then-not-card_ok

@@ -14,7 +14,7 @@ use Rattle.cell.specs.Ranges.{row_width, cell_of}
 use Rattle.cell.specs.Step.{StepGives}
 use Rattle.site.specs.Rows.{part_at, put_at}
 use Rattle.site.specs.Site.{soil_fits, rows_fit, cell_fits, SiteGives}
-use Rattle.site.specs.SiteLaws.{gives, lengths_bad, cell_bad, reached, rows_reached, refused_gives}
+use Rattle.site.proofs.SiteLaws.{gives, lengths_bad, cell_bad, reached, rows_reached, refused_gives}
 use Rattle.site.proofs.step.Goals as goal
 
 -- `site::step` meets its contract. Refused by check 2 or 3, or what the named row gives, put back in its place. Assumes nothing.

@@ -1,4 +1,4 @@
-use Rattle.text.specs.WrittenLaws.{no_room, has_room, writes_none, writes_all}
+use Rattle.text.proofs.WrittenLaws.{no_room, has_room, writes_none, writes_all}
 use Rattle.cell.specs.Refusals.{malformed}
 use native.Mathlib.Omega.{arith}
 use Rattle.form.specs.Form.{form_text}

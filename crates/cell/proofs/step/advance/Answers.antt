@@ -4,7 +4,7 @@ use mathlib.Core.List.{List, ◌∷◌, ◌++◌}
 use Prim.Native.Nat.{ℕ, ◌+◌}
 use lib.ListN.{length-set, drop}
 use Rattle.cell.specs.RangeLaws.{row_in}
-use Rattle.cell.specs.StepLaws.{queue_in, queue_length}
+use Rattle.cell.proofs.StepLaws.{queue_in, queue_length}
 use Rattle.cell.specs.Step.{queue_by, row_moved}
 use Rattle.cell.proofs.Parts.{part_is, row_put}
 use Rattle.cell.proofs.step.advance.Goals as goal

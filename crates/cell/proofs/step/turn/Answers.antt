@@ -1,6 +1,6 @@
 use mathlib.Core.Path.{ap, ◌∙◌}
 use lib.ListN.{length}
-use Rattle.cell.specs.StepLaws.{after_length}
+use Rattle.cell.proofs.StepLaws.{after_length}
 use Rattle.cell.proofs.Parts.{lack_small, settling, putting, queue_is, amounts_are}
 use Rattle.cell.proofs.step.turn.Goals as goal
 

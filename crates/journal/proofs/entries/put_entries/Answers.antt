@@ -2,7 +2,7 @@ use mathlib.Core.Path.{refl, ◌∙◌}
 use Rattle.journal.proofs.Turns.{begin, end_fits, end_put, stop_fits, stop_put, fits, within, shorter, turn}
 use Rattle.journal.proofs.Lent.{rest_is}
 use Rattle.journal.specs.Book.{entries_text}
-use Rattle.site.specs.SheetLaws.{site_within}
+use Rattle.site.proofs.SheetSteps.{site_within}
 use Rattle.site.specs.Sheet.{no_steps}
 use lib.ListN.{length}
 use Prim.Native.Nat.{◌+◌}

@@ -1,7 +1,7 @@
 use Rattle.cell.specs.Ranges.{cell_of}
 use Rattle.cell.specs.Refusals.{amounts_of}
 use Rattle.journal.proofs.Lent.{rest_is, put_rest}
-use Rattle.text.specs.PrintLaws.{amounts_printable_lem, prints_text}
+use Rattle.text.proofs.PrintLaws.{amounts_printable_lem, prints_text}
 use Rattle.text.specs.Printed.{answer_text}
 use lib.ListN.{length, take, drop, length-drop}
 use Prim.Native.Nat.{ℕ, ◌+◌, ◌-◌}

@@ -1,5 +1,5 @@
 use Rattle.journal.proofs.Lent.{rest_is, put_rest}
-use Rattle.text.specs.PrintLaws.{sheet_printable_lem, prints_text}
+use Rattle.text.proofs.PrintLaws.{sheet_printable_lem, prints_text}
 use Rattle.text.specs.Printed.{sheet_text}
 use lib.ListN.{length, take, drop, length-drop}
 use Prim.Native.Nat.{ℕ, ◌+◌, ◌-◌}

@@ -1,5 +1,5 @@
 use mathlib.Core.Path.{refl}
-use Rattle.text.specs.CardLaws.{head_good, head_bad}
+use Rattle.text.proofs.CardLaws.{head_good, head_bad}
 use Rattle.text.proofs.card.card_counts.Goals as goal
 
 pub returns-then-ok : goal.returns-then-ok

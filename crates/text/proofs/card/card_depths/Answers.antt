@@ -1,4 +1,4 @@
-use Rattle.text.specs.CardLaws.{ends_good, ends_bad}
+use Rattle.text.proofs.CardLaws.{ends_good, ends_bad}
 use Rattle.text.proofs.card.card_depths.Goals as goal
 
 pub returns-then-ok : goal.returns-then-ok

@@ -1,5 +1,5 @@
 use native.Mathlib.Omega.{arith}
-use Rattle.text.specs.CardTexts.{parts_length}
+use Rattle.text.proofs.CardTexts.{parts_length}
 use Rattle.text.proofs.card.card_len.Goals as goal
 
 pub returns : goal.returns

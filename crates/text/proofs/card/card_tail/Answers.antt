@@ -1,7 +1,7 @@
 use native.Mathlib.Omega.{arith}
 use mathlib.Core.Path.{◌∙◌}
 use Rattle.form.proofs.Digits.{byte_below}
-use Rattle.text.specs.CardLaws.{tail_bad, tail_other, tail_good}
+use Rattle.text.proofs.CardLaws.{tail_bad, tail_other, tail_good}
 use Rattle.text.proofs.card.card_tail.Goals as goal
 
 pub overflow_add-result : goal.overflow_add-result

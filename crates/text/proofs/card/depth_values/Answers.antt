@@ -5,7 +5,7 @@ use mir.Syntax.{w64}
 use mathlib.Core.List.{map}
 use lib.ListN.{length-set, length-map, drop_of_length-le}
 use mir.Facts.{to_z_pos}
-use Rattle.text.specs.CardTexts.{vals_turn}
+use Rattle.text.proofs.CardTexts.{vals_turn}
 use Rattle.form.specs.Put.{sets_all}
 use Rattle.text.proofs.card.depth_values.Goals as goal
 

@@ -1,6 +1,6 @@
 use native.Mathlib.Omega.{arith}
 use mathlib.Core.Path.{refl}
-use Rattle.text.specs.CardTexts.{parts_length, parts_put}
+use Rattle.text.proofs.CardTexts.{parts_length, parts_put}
 use Rattle.text.proofs.card.put_card.Goals as goal
 
 pub put_form-a-requires : goal.put_form-a-requires

@@ -1,7 +1,7 @@
 use native.Mathlib.Omega.{arith}
 use mathlib.Core.Path.{refl}
 use lib.ListN.{length-set}
-use Rattle.text.specs.CardTexts.{tail_length, tail_put}
+use Rattle.text.proofs.CardTexts.{tail_length, tail_put}
 use Rattle.text.proofs.card.put_tail.Goals as goal
 
 pub put_key-end-requires : goal.put_key-end-requires

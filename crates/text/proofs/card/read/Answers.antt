@@ -1,7 +1,7 @@
 use native.Mathlib.Omega.{arith}
 use Rattle.text.specs.Cards.{refused_card}
 use Rattle.form.specs.RunLaws.{ran_good}
-use Rattle.text.specs.CardLaws.{head_range, end_head, end_depths, end_soil, end_short, end_good}
+use Rattle.text.proofs.CardLaws.{head_range, end_head, end_depths, end_soil, end_short, end_good}
 use Rattle.text.proofs.card.read.Goals as goal
 
 pub card_depths-t-requires : goal.card_depths-t-requires

@@ -1,5 +1,5 @@
 use native.Mathlib.Omega.{arith}
-use Rattle.text.specs.CardTexts.{tail_length}
+use Rattle.text.proofs.CardTexts.{tail_length}
 use Rattle.text.proofs.card.tail_len.Goals as goal
 
 pub returns : goal.returns

@@ -2,7 +2,7 @@ use native.Mathlib.Omega.{arith}
 use mathlib.Core.Path.{refl, sym, ◌∙◌}
 use mathlib.Core.List.{map}
 use lib.ListN.{length-set, length-map, drop_of_length-le}
-use Rattle.text.specs.CardLaws.{words_turn}
+use Rattle.text.proofs.CardLaws.{words_turn}
 use Rattle.form.specs.Put.{sets_all}
 use Rattle.form.specs.Words.{word_of}
 use Rattle.text.proofs.card.to_depths.Goals as goal

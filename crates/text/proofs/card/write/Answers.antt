@@ -6,7 +6,7 @@ use mathlib.Core.Bool.{true}
 use Rattle.form.specs.Many.{many_fit}
 use Rattle.text.specs.Cards.{has_text}
 use Rattle.text.specs.Lines.{soil_form}
-use Rattle.text.specs.CardTexts.{text_counts, wrote_none, wrote_long, wrote_odd, wrote_short, wrote_all}
+use Rattle.text.proofs.CardTexts.{text_counts, wrote_none, wrote_long, wrote_odd, wrote_short, wrote_all}
 use Rattle.text.proofs.card.write.Goals as goal
 
 pub card_len-len-requires : goal.card_len-len-requires

@@ -1,4 +1,4 @@
-use Rattle.text.specs.VoidLaws.{entry_reading, entry_void, entry_other}
+use Rattle.text.proofs.VoidLaws.{entry_reading, entry_void, entry_other}
 use Rattle.text.proofs.entry.read.Goals as goal
 
 pub returns-then-x-eq0 : goal.returns-then-x-eq0

@@ -1,5 +1,5 @@
 use mathlib.Core.Path.{refl}
-use Rattle.text.specs.ReadingLaws.{read_good, refused}
+use Rattle.text.proofs.ReadingLaws.{read_good, refused}
 use Rattle.text.proofs.reading.read.Goals as goal
 
 pub returns-then-ok : goal.returns-then-ok

@@ -1,5 +1,5 @@
 use mathlib.Core.Path.{refl}
-use Rattle.text.specs.VoidLaws.{read_good, refused}
+use Rattle.text.proofs.VoidLaws.{read_good, refused}
 use Rattle.text.proofs.void.read.Goals as goal
 
 pub returns-then-ok : goal.returns-then-ok

@@ -12,13 +12,13 @@ use Rattle.site.specs.Site.{clear_number, clear_rows}
 use Rattle.site.specs.Sheet.{no_steps, after_all}
 use Rattle.text.specs.Voids.{read_entry}
 use Rattle.text.specs.Cards.{parse, card_text}
-use Rattle.text.specs.CardTexts.{card_one}
-use Rattle.text.specs.CardEnds.{Malformed, card_stops, card_ends}
+use Rattle.text.proofs.CardTexts.{card_one}
+use Rattle.text.proofs.CardEnds.{Malformed, card_stops, card_ends}
 use Rattle.text.specs.Printed.{sheet_text}
 use Rattle.journal.specs.Entries.{EntriesRead, entries_in, Answered, answered_of, answers_of, lines_text}
 use Rattle.journal.specs.Book.{code_text, malformed_text, entries_text, fresh_rows, input_limit, book_of}
-use Rattle.journal.specs.BookLaws.{cleared_code, cleared_more, book_malformed, book_read}
-use Rattle.journal.specs.EntryLaws.{texts_of, LinesOf, lines_of, answered_each}
+use Rattle.journal.proofs.BookLaws.{cleared_code, cleared_more, book_malformed, book_read}
+use Rattle.journal.proofs.EntryLaws.{texts_of, LinesOf, lines_of, answered_each}
 
 -- what stands below the card, the entries in it and their answers; the texts of the card and of those entries
 abbrev pub below : List ℕ → List ℕ

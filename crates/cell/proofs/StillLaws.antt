@@ -24,7 +24,7 @@ use Rattle.cell.specs.Queue.{slot, shifted}
 use Rattle.cell.specs.QueueLaws.{spared_none, joined_none}
 use Rattle.cell.specs.Rules.{drain_of}
 use Rattle.cell.specs.Step.{given, release, runoff, etvad, lack, etstor, etsat, drain, stored, direct, recharge, delay, queue_after, step_amounts, shift_amounts, amounts_by, queue_by, row_moved, runoff_by, drain_by, row_after, sums_take}
-use Rattle.cell.specs.StepLaws.{runoff_given, etvad_left, lack_pet, plants_pet, given_parts, recharge_parts}
+use Rattle.cell.proofs.StepLaws.{runoff_given, etvad_left, lack_pet, plants_pet, given_parts, recharge_parts}
 use Rattle.cell.specs.Still.{still_of, reading_of}
 
 -- ---- the checks

@@ -17,10 +17,10 @@ use Rattle.text.specs.declared.void.VoidRead.{VoidRead}
 use Rattle.text.specs.declared.Written.{Written}
 use Rattle.text.specs.Lines.{reading_form, void_form}
 use Rattle.text.specs.Readings.{read_reading, text_of, read_again}
-use Rattle.text.specs.ReadingLaws.{small, read_back, Words as ReadingWords}
+use Rattle.text.proofs.ReadingLaws.{small, read_back, Words as ReadingWords}
 use Rattle.text.specs.Voids.{void_vals, notice_at, void_text, read_void, void_checks, voided, as_read, read_entry}
 use Rattle.text.specs.Written.{Writes}
-use Rattle.text.specs.WrittenLaws.{line_again}
+use Rattle.text.proofs.WrittenLaws.{line_again}
 
 one_line_lem : (s : List ℕ) → (form_at void_form s 0).ok ≡ true → FormRead void_form s 0 (form_at void_form s 0)
 one_line_lem s e = form_one void_form s 0 refl (omega arith) e

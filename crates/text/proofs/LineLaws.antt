@@ -12,21 +12,22 @@ use Rattle.cell.specs.declared.Card.{Card}
 use Rattle.cell.specs.declared.Entry.{Entry}
 use Rattle.cell.specs.declared.Notice.{Notice}
 use Rattle.cell.specs.Ranges.{row_width, cell_of}
-use Rattle.cell.specs.AnswerLaws.{amounts_in, void_amounts}
+use Rattle.cell.proofs.AnswerLaws.{amounts_in, void_amounts}
 use Rattle.site.specs.Rows.{part_at}
 use Rattle.site.specs.Site.{soil_width, site_answer}
-use Rattle.site.specs.SiteLaws.{row_answer}
+use Rattle.site.proofs.SiteLaws.{row_answer}
 use Rattle.cell.specs.Refusals.{refusal_number, nothing, number_of, amounts_of}
-use Rattle.cell.specs.CheckLaws.{number_most}
+use Rattle.cell.proofs.CheckLaws.{number_most}
 use Rattle.site.specs.declared.Sheet.{Sheet}
-use Rattle.site.specs.SheetLaws.{AmountsWithin, SheetIn, site_within}
+use Rattle.site.specs.SheetLaws.{AmountsWithin, SheetIn}
+use Rattle.site.proofs.SheetSteps.{site_within}
 use Rattle.form.specs.Words.{word_lt}
 use Rattle.text.specs.Lines.{reading_form, void_form, answer_form, sheet_form}
 use Rattle.text.specs.Readings.{read_reading, vals_of, text_of}
 use Rattle.text.specs.declared.entry.EntryRead.{EntryRead}
 use Rattle.text.specs.Voids.{void_vals, void_text, read_void, voided, as_read, read_entry, entry_text}
-use Rattle.text.specs.VoidLaws.{stands, one_text as void-text}
-use Rattle.text.specs.ReadingLaws.{one_text}
+use Rattle.text.proofs.VoidLaws.{stands, one_text as void-text}
+use Rattle.text.proofs.ReadingLaws.{one_text}
 use Rattle.text.specs.Printed.{answer_vals, line_text, answer_text, sheet_vals, sheet_text}
 
 -- a line takes as many bytes as its form has at the least, all of them from the text

@@ -13,7 +13,7 @@ use Rattle.outbox.specs.declared.Outbox.{Outbox}
 use Rattle.outbox.specs.declared.Place.{Place}
 use Rattle.outbox.specs.Outbox.{zeros, spare, is_zero, is_spare, padded, held_of, box_of, all_spare}
 use Rattle.outbox.specs.Counts.{Among}
-use Rattle.outbox.specs.Kept.{InForm}
+use Rattle.outbox.proofs.Kept.{InForm}
 use Rattle.outbox.specs.Laws.{form_in}
 
 -- the head of a reading as it is carried, and that it is what 32 bits stand for, as each that a host hands over is

@@ -36,7 +36,7 @@ use Rattle.form.specs.Words.{word_of}
 use Rattle.text.specs.Lines.{card_form, depth_form, share_form, soil_form}
 use Rattle.text.specs.Cards.{range_counts, counts_of, unsaid_share, tail_at, Depths, depths_at, bad_line, parse, card_result, soil_result, tail_text, card_text, card_parts, has_text, card_checks}
 use Rattle.text.specs.Written.{fits_in, Writes}
-use Rattle.text.specs.WrittenLaws.{no_room, has_room, writes_none, writes_all, writes_text}
+use Rattle.text.proofs.WrittenLaws.{no_room, has_room, writes_none, writes_all, writes_text}
 use Rattle.form.specs.Put.{sets_step}
 
 map_two : (vs : List ℤ) → map pos (map word_of vs) ≡ map unword vs

@@ -19,7 +19,7 @@ use Rattle.text.specs.Lines.{reading_form}
 use Rattle.form.specs.Words.{word_of, word_lt}
 use Rattle.text.specs.Readings.{vals_of, fields_of, text_of, read_reading, carried, read_again, Same, reading_checks}
 use Rattle.text.specs.Written.{Writes}
-use Rattle.text.specs.WrittenLaws.{line_again}
+use Rattle.text.proofs.WrittenLaws.{line_again}
 
 -- a line that stands at the start of s
 one_line_lem : (s : List ℕ) → (form_at reading_form s 0).ok ≡ true → FormRead reading_form s 0 (form_at reading_form s 0)

@@ -22,14 +22,14 @@ use Rattle.cell.specs.declared.checks.Verdict.TheVariants.{Fine, Bad}
 use Rattle.cell.specs.Ranges.{card_ok, soil_ok, soil_of, queue_of, row_width, row_ok, notice_ok, notice_of, life_of, next_of}
 use Rattle.cell.specs.Depth.{dry_depth}
 use Rattle.cell.specs.Refusals.{unless, fields_verdict, verdict_of}
-use Rattle.cell.specs.CheckLaws.{Passed, passed, verdict_other, final_passed, final_fine, verdict_card, rain_passed, checked, InOrder, order_is, order_old, order_gap}
+use Rattle.cell.proofs.CheckLaws.{Passed, passed, verdict_other, final_passed, final_fine, verdict_card, rain_passed, checked, InOrder, order_is, order_old, order_gap}
 use Rattle.cell.specs.Parts.{Checked}
 use Rattle.cell.specs.Queue.{slot, just, total, shifted, spared}
 use Rattle.cell.specs.QueueLaws.{just_none, total_in, total_shifted, total_cleared, slot_empty, slot_cleared, slot_shifted, slot_spared, slot_joined, length_shifted, length_spared}
 use Rattle.cell.specs.Step.{release, runoff, etsat, drain, stored, direct, queue_after, step_amounts, shift_amounts, amounts_by, queue_by, row_moved, runoff_by, drain_by, row_after, sums_take, delay_by, draws_by, judged, final_of, answer_of, new_row, step_delay, step_draws, delay, draws, lack}
-use Rattle.cell.specs.StepLaws.{given_most, delay_most, given_parts, stored_none, draws_total, draws_length, totals, recharge_parts, row_queue, runoff_given, plants_pet, drain_most, stored_most, release_most, recharge_most, after_in, after_length, queue_in, queue_length, row_life, row_next, row_runoff, row_drain, row_kept, row_length}
+use Rattle.cell.proofs.StepLaws.{given_most, delay_most, given_parts, stored_none, draws_total, draws_length, totals, recharge_parts, row_queue, runoff_given, plants_pet, drain_most, stored_most, release_most, recharge_most, after_in, after_length, queue_in, queue_length, row_life, row_next, row_runoff, row_drain, row_kept, row_length}
 use Rattle.cell.specs.Still.{reading_of}
-use Rattle.cell.specs.StillLaws.{amounts_as, queue_as, row_as, take_as}
+use Rattle.cell.proofs.StillLaws.{amounts_as, queue_as, row_as, take_as}
 use Rattle.cell.specs.Sums.{runoff_at, drain_at, sum_limit, sum_of, added}
 
 -- the range of each amount

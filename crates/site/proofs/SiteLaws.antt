@@ -20,8 +20,8 @@ use Rattle.cell.specs.declared.Refusal.TheVariants.{BadCard, BadLengths, BadCell
 use Rattle.cell.specs.Ranges.{card_ok, row_width, notice_ok, fields_ok, noticed, notice_of, cell_of}
 use Rattle.cell.specs.Step.{answer_of, new_row}
 use Rattle.cell.specs.Refusals.{refusal_number, first_failing, is_jammed, field_checks, number_of, nothing, amounts_of}
-use Rattle.cell.specs.CheckLaws.{row_number, refusal_in}
-use Rattle.cell.specs.AnswerLaws.{step_taken, stays, bad_card, length_after, rain_taken}
+use Rattle.cell.proofs.CheckLaws.{row_number, refusal_in}
+use Rattle.cell.proofs.AnswerLaws.{step_taken, stays, bad_card, length_after, rain_taken}
 use Rattle.site.specs.Rows.{part_at, put_at}
 use Rattle.site.specs.RowsLaws.{put_back, put_same, put_other, put_length, put_outside, room, part_zeros}
 use Rattle.site.specs.Site.{soil_width, soil_fits, rows_fit, cell_fits, checks_of, refuse, site_answer, rows_by, site_rows, SiteGives, clear_number, clear_rows, ClearGives}

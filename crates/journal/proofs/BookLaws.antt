@@ -8,14 +8,14 @@ use Rattle.cell.specs.Ranges.{cell_of}
 use Rattle.cell.specs.declared.Answer.{Answer}
 use Rattle.site.specs.declared.Sheet.{Sheet}
 use Rattle.site.specs.Site.{site_answer, site_rows, clear_number, clear_rows}
-use Rattle.site.specs.SiteLaws.{clear_most}
+use Rattle.site.proofs.SiteLaws.{clear_most}
 use Rattle.site.specs.Sheet.{no_steps, added_of}
 use Rattle.site.specs.SheetLaws.{SheetIn, sheet_none, sheet_added}
 use Rattle.text.specs.declared.entry.EntryRead.{EntryRead}
 use Rattle.text.specs.Voids.{read_entry}
 use Rattle.text.specs.Cards.{Parsed, parse}
-use Rattle.text.specs.CardTexts.{line_most, cells_most}
-use Rattle.text.specs.LineLaws.{entry_takes, entry_room, sheet_most}
+use Rattle.text.proofs.CardTexts.{line_most, cells_most}
+use Rattle.text.proofs.LineLaws.{entry_takes, entry_room, sheet_most}
 use Rattle.text.specs.Printed.{answer_text, sheet_text}
 use Rattle.journal.specs.Entries.{Answered, entries_in, answered_of, lines_text}
 use Rattle.journal.specs.Book.{code_form, code_text, malformed_form, malformed_text, entries_text, fresh_rows, cleared_text, input_limit, book_of, room_for, BookGives}

@@ -7,7 +7,7 @@ use Rattle.site.specs.SheetLaws.{AmountsWithin, SheetIn}
 use Rattle.text.specs.declared.Written.{Written}
 use Rattle.text.specs.Printed.{most, amounts_printable, sheet_printable, line_checks}
 use Rattle.text.specs.Written.{fits_in, Writes}
-use Rattle.text.specs.WrittenLaws.{writes_text}
+use Rattle.text.proofs.WrittenLaws.{writes_text}
 
 fits : (n m : ℕ) → n ≤ m → m ≤ most → leb n most ≡ true
 fits n m h k = le-leb n most (omega arith)

@@ -13,14 +13,15 @@ use Rattle.cell.specs.Refusals.{amounts_of}
 use Rattle.site.specs.declared.Sheet.{Sheet}
 use Rattle.site.specs.Site.{site_answer, site_rows, clear_number, clear_rows}
 use Rattle.site.specs.Sheet.{no_steps, after_all}
-use Rattle.site.specs.SheetLaws.{AmountsWithin, AllWithin, Holds, accepted, from_none, site_within}
+use Rattle.site.specs.SheetLaws.{AmountsWithin, AllWithin, Holds, accepted, from_none}
+use Rattle.site.proofs.SheetSteps.{site_within}
 use Rattle.text.specs.declared.entry.EntryRead.{EntryRead}
 use Rattle.text.specs.Voids.{read_entry, entry_text}
 use Rattle.text.specs.Printed.{answer_text, sheet_text}
-use Rattle.text.specs.LineLaws.{entry_takes, entry_text_lem, entry_line, answer_line, sheet_line}
+use Rattle.text.proofs.LineLaws.{entry_takes, entry_text_lem, entry_line, answer_line, sheet_line}
 use Rattle.journal.specs.Entries.{EntriesRead, entries_in, Answered, answered_of, answers_of, lines_text}
 use Rattle.journal.specs.Book.{input_limit, malformed_form, malformed_text, entries_text, cleared_text}
-use Rattle.journal.specs.BookLaws.{cleared_more}
+use Rattle.journal.proofs.BookLaws.{cleared_more}
 
 -- ---- the lines that are read
 abbrev pub texts_of : List Entry → List ℕ

@@ -29,7 +29,7 @@ use Rattle.cell.specs.Refusals.{refusal_number, first_failing, number_of, is_old
 use Rattle.cell.specs.Step.{amounts_by, sums_take, judged, final_of, sum_checks, answer_of}
 use Rattle.cell.specs.RuleLaws.{depth_le}
 use Rattle.cell.specs.Still.{reading_of}
-use Rattle.cell.specs.StillLaws.{fields_as}
+use Rattle.cell.proofs.StillLaws.{fields_as}
 
 -- ---- the checks that an entry has passed where the table stands at d
 pub record Passed (card : Card) (soil : List ℤ) (row : List ℕ) (e : Entry) (d : Depth) : Type 0 where
