@@ -8,8 +8,8 @@
 //! that: a row has 36 numbers in place of 32, and [`grow`] moves a site's rows over.
 //!
 //! rust/ is a package of this file: a firm's own package names it by path. Plain `rustc --edition 2024` takes this file
-//! as a module and finds the library by `-L native=target/staticlib`, after `rt staticlib gateway`; hosts/host.rs is such
-//! a host. Edition 2021 works too; 2015, which rustc takes unasked, does not.
+//! as a module and finds the library by `-L native=target/staticlib`, after `help/library.sh gateway`; hosts/host.rs is
+//! such a host. Edition 2021 works too; 2015, which rustc takes unasked, does not.
 //!
 //! ```
 //! use waterbook::{ANSWER_TEXT, CELLS, ROW, Refusal, SHARE_AT, SHEET, SOIL, USUAL_SHARE};
@@ -53,7 +53,7 @@ use core::fmt;
 /// The version of the library; include/waterbook.h says what raises which part.
 pub const VERSION_MAJOR: u32 = 5;
 pub const VERSION_MINOR: u32 = 0;
-pub const VERSION_PATCH: u32 = 0;
+pub const VERSION_PATCH: u32 = 1;
 /// The version as one number.
 pub const VERSION: u32 = 1_000_000 * VERSION_MAJOR + 1_000 * VERSION_MINOR + VERSION_PATCH;
 
@@ -106,14 +106,14 @@ pub const STACK_COLLECT: usize = 240;
 pub const STACK_GROW: usize = 512;
 pub const STACK_SHRINK: usize = 512;
 pub const STACK_ADD: usize = 208;
-pub const STACK_READ_CARD: usize = 1_088;
-pub const STACK_WRITE_CARD: usize = 1_920;
-pub const STACK_READ_READING: usize = 512;
-pub const STACK_WRITE_READING: usize = 896;
-pub const STACK_READ_VOID: usize = 320;
-pub const STACK_WRITE_VOID: usize = 800;
-pub const STACK_WRITE_ANSWER: usize = 1_600;
-pub const STACK_WRITE_SHEET: usize = 1_536;
+pub const STACK_READ_CARD: usize = 800;
+pub const STACK_WRITE_CARD: usize = 1_216;
+pub const STACK_READ_READING: usize = 368;
+pub const STACK_WRITE_READING: usize = 544;
+pub const STACK_READ_VOID: usize = 192;
+pub const STACK_WRITE_VOID: usize = 464;
+pub const STACK_WRITE_ANSWER: usize = 960;
+pub const STACK_WRITE_SHEET: usize = 912;
 pub const STACK_BOOK: usize = 49_152;
 
 /// The number of a raw call that was accepted.

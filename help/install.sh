@@ -44,7 +44,7 @@ case $1 in
     ;;
 esac
 if [ ! -f "$library" ]; then
-    echo "install: there is no $library; prove and write it with: rt staticlib $part" >&2
+    echo "install: there is no $library; prove and write it with: help/library.sh $part" >&2
     exit 1
 fi
 if command -v nm > /dev/null; then

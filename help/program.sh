@@ -1,4 +1,4 @@
-# The words that run a program which rt built, in `program`. rt builds for x86-64: on another machine they are those of the emulator that the Rattle kit has there. Read by run and the tests.
+# The words that run a program which rt built, in `program`. rt builds for x86-64: on another machine they are those of the emulator that the Rattle kit has there, where it has one. Read by run and the tests.
 program=()
 
 # Whether this machine links and runs what rt builds as it is.

@@ -6,8 +6,8 @@
 //! own, to be kept where a fresh battery does not wipe it.
 //!
 //! rust/ is a package of this file: a firm's own package names it by path. Plain `rustc --edition 2024` takes this file
-//! as a module and finds the library by `-L native=target/staticlib`, after `rt staticlib node`; hosts/dialogue.rs is
-//! such a host. Edition 2021 works too; 2015, which rustc takes unasked, does not.
+//! as a module and finds the library by `-L native=target/staticlib`, after `help/library.sh node`; hosts/dialogue.rs
+//! is such a host. Edition 2021 works too; 2015, which rustc takes unasked, does not.
 //!
 //! ```
 //! use outbox::{READING, Refusal, VOID};
@@ -42,7 +42,7 @@ use core::fmt;
 
 /// The version of the library; include/outbox.h says what raises which part.
 pub const VERSION_MAJOR: u32 = 1;
-pub const VERSION_MINOR: u32 = 0;
+pub const VERSION_MINOR: u32 = 1;
 pub const VERSION_PATCH: u32 = 0;
 /// The version as one number.
 pub const VERSION: u32 = 1_000_000 * VERSION_MAJOR + 1_000 * VERSION_MINOR + VERSION_PATCH;
@@ -60,12 +60,12 @@ pub const READING: u32 = 0;
 pub const VOID: u32 = 1;
 
 /// The stack that each raw call needs in bytes, as include/outbox.h says it; a caller's own frames come on top.
-pub const STACK_FRESH: usize = 4_608;
-pub const STACK_OFFER: usize = 3_200;
-pub const STACK_ADD: usize = 9_216;
-pub const STACK_REPLACE: usize = 7_680;
+pub const STACK_FRESH: usize = 1_664;
+pub const STACK_OFFER: usize = 4_928;
+pub const STACK_ADD: usize = 8_192;
+pub const STACK_REPLACE: usize = 9_600;
 pub const STACK_ACKNOWLEDGE: usize = 7_680;
-pub const STACK_SWAP: usize = 6_144;
+pub const STACK_SWAP: usize = 4_928;
 
 /// The number of a raw call that was done.
 pub const DONE: u32 = 0;

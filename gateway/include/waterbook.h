@@ -1,6 +1,6 @@
 /* The water book of a site of plots ("cells"): the proved static library libgateway.a.
  *
- * Paths here are those of the water book's repository. `rt staticlib gateway` proves the library and writes
+ * Paths here are those of the water book's repository. `help/library.sh gateway` proves the library and writes
  * target/staticlib/libgateway.a; a host in C is built by `cc -Igateway/include host.c target/staticlib/libgateway.a`.
  * gateway/hosts/host.c is one. gateway/install puts library and header below a prefix, for pkg-config's `waterbook`.
  * gateway/STORING.md says when a host stores and when it acknowledges, docs/JOURNAL.md how texts are written.
@@ -138,7 +138,7 @@ extern "C" {
  * with 20 is written as before; a text with another share was malformed before. */
 #define WATERBOOK_VERSION_MAJOR 5
 #define WATERBOOK_VERSION_MINOR 0
-#define WATERBOOK_VERSION_PATCH 0
+#define WATERBOOK_VERSION_PATCH 1
 #define WATERBOOK_VERSION \
     (1000000 * WATERBOOK_VERSION_MAJOR + 1000 * WATERBOOK_VERSION_MINOR + WATERBOOK_VERSION_PATCH)
 
@@ -234,14 +234,14 @@ enum {
     WATERBOOK_STACK_GROW = 512,
     WATERBOOK_STACK_SHRINK = 512,
     WATERBOOK_STACK_ADD = 208,
-    WATERBOOK_STACK_READ_CARD = 1088,
-    WATERBOOK_STACK_WRITE_CARD = 1920,
-    WATERBOOK_STACK_READ_READING = 512,
-    WATERBOOK_STACK_WRITE_READING = 896,
-    WATERBOOK_STACK_READ_VOID = 320,
-    WATERBOOK_STACK_WRITE_VOID = 800,
-    WATERBOOK_STACK_WRITE_ANSWER = 1600,
-    WATERBOOK_STACK_WRITE_SHEET = 1536,
+    WATERBOOK_STACK_READ_CARD = 800,
+    WATERBOOK_STACK_WRITE_CARD = 1216,
+    WATERBOOK_STACK_READ_READING = 368,
+    WATERBOOK_STACK_WRITE_READING = 544,
+    WATERBOOK_STACK_READ_VOID = 192,
+    WATERBOOK_STACK_WRITE_VOID = 464,
+    WATERBOOK_STACK_WRITE_ANSWER = 960,
+    WATERBOOK_STACK_WRITE_SHEET = 912,
     WATERBOOK_STACK_BOOK = 49152
 };
 

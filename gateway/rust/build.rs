@@ -1,4 +1,4 @@
-//! Finds the proved library of a package, the one that it links: in WATERBOOK_LIB_DIR, or where `rt staticlib` writes it.
+//! Finds the proved library of a package, the one that it links: in WATERBOOK_LIB_DIR, or where help/library.sh writes it.
 
 use std::env;
 use std::path::PathBuf;
@@ -16,7 +16,7 @@ fn main() {
     if !folder.is_absolute() || !library.is_file() {
         println!("cargo::error=there is no {}", library.display());
         println!(
-            "cargo::error=prove and write it: `rt staticlib {name}` at the top of the water book"
+            "cargo::error=prove and write it: `help/library.sh {name}` at the top of the water book"
         );
         println!("cargo::error=or set WATERBOOK_LIB_DIR to its folder, a path from the root");
     }

@@ -1,6 +1,6 @@
 /* The outbox of one plot's node ("cell"): the proved static library libnode.a.
  *
- * Paths here are those of the water book's repository. `rt staticlib node` proves the library and writes
+ * Paths here are those of the water book's repository. `help/library.sh node` proves the library and writes
  * target/staticlib/libnode.a; a host in C is built by `cc -Inode/include host.c target/staticlib/libnode.a`.
  * node/hosts/host.c is one. node/install puts library and header below a prefix, for pkg-config's `outbox`.
  * docs/NEWCOMERS.md shows node and gateway at work together, gateway/STORING.md says when a gateway acknowledges.
@@ -59,7 +59,7 @@ extern "C" {
  * call, a width or a constant goes or changes its meaning: look at the host again. MINOR rises where a call or constant
  * comes, or a stack stated below grows: build the host again. PATCH rises where none of this is so, as for speed. */
 #define OUTBOX_VERSION_MAJOR 1
-#define OUTBOX_VERSION_MINOR 0
+#define OUTBOX_VERSION_MINOR 1
 #define OUTBOX_VERSION_PATCH 0
 #define OUTBOX_VERSION (1000000 * OUTBOX_VERSION_MAJOR + 1000 * OUTBOX_VERSION_MINOR + OUTBOX_VERSION_PATCH)
 
@@ -99,12 +99,12 @@ enum {
  * A signal handler without a stack of its own comes on top, and a loader that looks up memcpy at its first use: link
  * with -z now, or statically. */
 enum {
-    OUTBOX_STACK_FRESH = 4608,
-    OUTBOX_STACK_OFFER = 3200,
-    OUTBOX_STACK_ADD = 9216,
-    OUTBOX_STACK_REPLACE = 7680,
+    OUTBOX_STACK_FRESH = 1664,
+    OUTBOX_STACK_OFFER = 4928,
+    OUTBOX_STACK_ADD = 8192,
+    OUTBOX_STACK_REPLACE = 9600,
     OUTBOX_STACK_ACKNOWLEDGE = 7680,
-    OUTBOX_STACK_SWAP = 6144
+    OUTBOX_STACK_SWAP = 4928
 };
 
 /* An empty outbox of that cell: life 0, next 0, nothing held, all places zero. What stood in box is not looked at.
