@@ -1,5 +1,5 @@
 # Has rt prove and build, and lays what it built where hosts, ./run and the tests take it from: target/staticlib/libNAME.a and target/bin/waterbook.
-# Its functions are called at the top of the clone. Read by help/library.sh, help/prove.sh, tests/build and tests/papers.
+# Its functions are called at the top of the clone. Read by run, help/library.sh, tests/build and tests/papers.
 
 # A file is there whole or not at all, and one that has not changed is left alone.
 lay() { # FROM TO
