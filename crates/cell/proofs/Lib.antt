@@ -6,8 +6,10 @@ pub mod Parts
 pub mod Verdict
 pub mod Rooms
 pub mod Settled
-pub mod AnswerLaws
+-- laws of the steps, for the crates above
+pub mod SumLaws
 pub mod CheckLaws
 pub mod StepLaws
+pub mod AnswerLaws
+-- [3] a void, as the code steps it
 pub mod StillLaws
-pub mod SumLaws

@@ -9,12 +9,11 @@ pub mod Rules
 pub mod Step
 pub mod Collect
 pub mod Cases
--- laws of these, for the crates above
+-- laws of these, for the crates above; those of steps, sums and checks stand in proofs/
 pub mod RangeLaws
 pub mod QueueLaws
 pub mod RuleLaws
 pub mod CollectLaws
--- [3] a void, as the code steps it
 -- [2] the search that was retired
 pub mod ShallowFirst
 -- [5] the one share that there was

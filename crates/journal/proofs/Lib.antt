@@ -3,6 +3,7 @@ pub mod Lent
 pub mod Turns
 pub mod Given
 pub mod Settled
+-- laws of the book
 pub mod BookLaws
 pub mod EntryLaws
 pub mod LineNumbers

@@ -2,5 +2,3 @@
 pub mod Entries
 pub mod Book
 pub mod Cases
-
--- laws of these

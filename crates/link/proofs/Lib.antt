@@ -6,3 +6,5 @@ pub mod Told
 pub mod Fates
 pub mod Theorem
 pub mod Site
+-- a worked run
+pub mod Cases

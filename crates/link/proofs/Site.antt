@@ -30,7 +30,7 @@ use Rattle.outbox.specs.declared.Offered.TheVariants.{Oldest}
 use Rattle.outbox.specs.declared.Outbox.{Outbox}
 use Rattle.outbox.specs.declared.Place.{Place}
 use Rattle.outbox.specs.Outbox.{void_of, held_of, offer_of, replaced_of, fresh_of, is_next, swapped_of}
-use Rattle.outbox.specs.CallLaws.{Reaches}
+use Rattle.outbox.proofs.CallLaws.{Reaches}
 use Rattle.outbox.specs.Counts.{Among}
 use Rattle.outbox.proofs.Kept.{InForm, oldest_is, oldest_in, void_offered}
 use Rattle.link.specs.Lists.{life_in, count_in, At, of_life, FirstPart}

@@ -17,8 +17,9 @@ use Rattle.outbox.specs.declared.Offered.TheVariants.{Oldest}
 use Rattle.outbox.specs.declared.Outbox.{Outbox}
 use Rattle.outbox.specs.declared.Place.{Place}
 use Rattle.outbox.specs.Outbox.{full, notice, void_of, place, held_of, oldest_of, box_of, is_next, offer_of, added_of, replaced_of, acknowledged_of, swapped_of}
-use Rattle.outbox.specs.CallLaws.{brought, Has, box_has, fresh_is, fresh_cell, Adds, adds, Offers, offers, Reaches, Removes, removes, Swaps, next_number}
-use Rattle.outbox.specs.CallLaws as calls
+use Rattle.outbox.specs.Brought.{brought}
+use Rattle.outbox.proofs.CallLaws.{Has, box_has, fresh_is, fresh_cell, Adds, adds, Offers, offers, Reaches, Removes, removes, Swaps, next_number}
+use Rattle.outbox.proofs.CallLaws as calls
 use Rattle.outbox.proofs.Kept.{InForm, fresh_form, add_form, replace_form, acknowledge_form, swap_form}
 use Rattle.outbox.specs.Laws.{held_is}
 use Rattle.outbox.specs.Counts.{Among, held_entry, counted_has}

@@ -2,5 +2,3 @@
 pub mod Lists
 pub mod Run
 pub mod Site
--- a worked run
-pub mod Cases

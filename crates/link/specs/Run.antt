@@ -7,7 +7,7 @@ use Rattle.cell.specs.Ranges.{notice_of, cell_of}
 use Rattle.outbox.specs.declared.Outbox.{Outbox}
 use Rattle.outbox.specs.declared.Place.{Place}
 use Rattle.outbox.specs.Outbox.{full, void_of, held_of, fresh_of, offer_of, added_of, replaced_of, acknowledged_of, swapped_of}
-use Rattle.outbox.specs.CallLaws.{brought}
+use Rattle.outbox.specs.Brought.{brought}
 use Rattle.outbox.specs.Counts.{Among, held_entry}
 use Rattle.link.specs.Lists.{life_in, count_in, At, of_life, Holds}
 

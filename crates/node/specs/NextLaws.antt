@@ -6,7 +6,7 @@ use Rattle.outbox.specs.declared.Outbox.{Outbox}
 use Rattle.outbox.specs.declared.Place.{Place}
 use Rattle.outbox.specs.Outbox.{bad_form, spare, fresh_of, added_of, replaced_of, acknowledged_of, swapped_of}
 use Rattle.outbox.proofs.Back.{Plain}
-use Rattle.outbox.specs.Each.{Sound, fresh_sound, add_sound, replace_sound, acknowledge_sound, swap_sound}
+use Rattle.outbox.proofs.Each.{Sound, fresh_sound, add_sound, replace_sound, acknowledge_sound, swap_sound}
 use Rattle.shapes.specs.Shapes.{ill_shaped}
 use Rattle.node.specs.Numbers.{entry_from, places_from, all_entries, box_from, box_numbers}
 use Rattle.node.specs.NumberLaws.{AllFit, entry_plain, box_back, box_plain}

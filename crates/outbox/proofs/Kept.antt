@@ -12,7 +12,8 @@ use Rattle.outbox.specs.declared.Place.{Place}
 use Rattle.outbox.specs.Outbox.{notice, void_of, place, spare, padded, held_of, box_of, oldest_of, form_ok, fresh_of, is_next, offer_of, added_of, replaced_of, acknowledged_of, swapped_of}
 use Rattle.outbox.specs.Laws.{NumbersIn, form_in, held_is}
 use Rattle.outbox.specs.Counts.{held_entry, Counted, counted_more, counted_drop, turn_counts, form_of}
-use Rattle.outbox.specs.CallLaws.{brought, fresh_is, Adds, adds, Offers, offers, offer_is, Reaches, Removes, removes, Swaps, swaps, next_number}
+use Rattle.outbox.specs.Brought.{brought}
+use Rattle.outbox.proofs.CallLaws.{fresh_is, Adds, adds, Offers, offers, offer_is, Reaches, Removes, removes, Swaps, swaps, next_number}
 
 -- ---- parts of an outbox that was made of a list
 box_held : (cell life next : ℕ) (ps : List Place) → (box_of cell life next ps).held ≡ length ps

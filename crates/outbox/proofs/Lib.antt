@@ -1,5 +1,9 @@
 -- What several proofs share, and that each contract settles its function.
 pub mod Room
 pub mod Settled
-pub mod Back
+pub mod Changed
+-- laws of the calls, for the crates above
+pub mod CallLaws
+pub mod Each
 pub mod Kept
+pub mod Back

@@ -6,7 +6,7 @@ use mathlib.Core.List.{List, [], ◌∷◌, ◌++◌, append_assoc}
 use Prim.Native.Nat.{ℕ, zero, suc, ◌+◌, ◌-◌, ◌≤◌, ◌<◌}
 use Rattle.std.proofs.Math.Nat.{sub-zero}
 use Rattle.std.proofs.lemmas.Bool.{not-true, not-false}
-use Rattle.std.proofs.Math.ListN.{length, get_or, take, set, length-append, length-drop}
+use Rattle.std.proofs.Math.ListN.{length, get_or, take, set, length-append}
 use Rattle.std.proofs.Math.Seq.{length-take-le}
 use Rattle.std.proofs.lemmas.List.{set_at}
 use Rattle.cell.specs.declared.Entry.{Entry}
@@ -16,7 +16,7 @@ use Rattle.cell.specs.Ranges.{notice_of}
 use Rattle.outbox.specs.declared.Offered.TheVariants.{Oldest}
 use Rattle.outbox.specs.declared.Outbox.{Outbox}
 use Rattle.outbox.specs.declared.Place.{Place}
-use Rattle.outbox.specs.Outbox.{bad_form, notice, same, void_of, place, spare, is_spare, padded, held_of, box_of, oldest_of, numbers_ok, in_turn, all_spare, form_ok, given, unless, oldest, with_entry, replacing, is_heard, without, acknowledged_of}
+use Rattle.outbox.specs.Outbox.{bad_form, notice, same, place, spare, is_spare, padded, held_of, box_of, oldest_of, numbers_ok, in_turn, all_spare, form_ok, given, unless, oldest, with_entry, is_heard, without, acknowledged_of}
 
 -- ---- notices
 pub notice_is : (n : Notice) {cell life count : ℕ} → n.cell ≡ cell → n.life ≡ life → n.count ≡ count → n ≡ notice cell life count
@@ -130,7 +130,7 @@ pub padded_first : (p q : Place) (ps : List Place) → set (padded (p ∷ ps)) 0
 unfolding padded
 padded_first p q ps = refl
 
-first_of : (p : Place) (ps : List Place) (d : Place) → get_or (padded (p ∷ ps)) 0 d ≡ p
+pub first_of : (p : Place) (ps : List Place) (d : Place) → get_or (padded (p ∷ ps)) 0 d ≡ p
 unfolding padded
 first_of p ps d = refl
 
@@ -150,7 +150,7 @@ first_held (suc h) [] d n k = absurd (omega arith)
 first_held (suc h) (p ∷ ps) d n k = let e : suc h - 1 ≡ h = omega arith in rw e
 
 module _ (b : Outbox) (len : length b.places ≡ 30) where
-  first_is : (d : Place) → (b.held ≡ 0 → ⊥) → held_of b ≡ get_or b.places 0 d ∷ take (b.held - 1) (drop 1 b.places)
+  pub first_is : (d : Place) → (b.held ≡ 0 → ⊥) → held_of b ≡ get_or b.places 0 d ∷ take (b.held - 1) (drop 1 b.places)
   unfolding held_of
   first_is d n = first_held b.held b.places d n (omega arith)
 
@@ -172,28 +172,6 @@ module _ (b : Outbox) (len : length b.places ≡ 30) where
       let s : set ps b.held (place e) ≡ padded (take b.held b.places ++ (place e ∷ [])) =
       rw k (rw l at (padded_more (take b.held b.places) (place e) (omega arith))) in
       rw (m, s)
-
-  -- without those below a count
-  pub without_is : (n held : ℕ) (ps : List Place) → b.held ≤ 30 → held ≡ b.held - (n - oldest_of b) → ps ≡ padded (drop (n - oldest_of b) (take b.held b.places))
-      → record { cell = b.cell; life = b.life; next = b.next; held = held; places = ps } ≡ without b n
-  unfolding without box_of held_of
-  without_is n held ps r h k =
-      let l : length (drop (n - oldest_of b) (take b.held b.places)) ≡ b.held - (n - oldest_of b) =
-      omega (arith, length-drop (n - oldest_of b) (take b.held b.places), held_length r) in
-      rw (l, h, k)
-
-  -- with a void in place of the oldest
-  pub replaced_is : (d : Place) (v : Entry) (ps : List Place) → b.held ≤ 30 → (b.held ≡ 0 → ⊥) → ps ≡ padded (drop 0 (take b.held b.places)) → v ≡ void_of (get_or ps 0 d).entry
-      → record { outbox = record { cell = b.cell; life = b.life; next = b.next; held = b.held; places = set ps 0 (place v) }; number = 0; empty = false } ≡ replacing b (held_of b)
-  unfolding replacing box_of held_of
-  replaced_is d v ps r n k e =
-      let q = take (b.held - 1) (drop 1 b.places) in
-      let p = get_or b.places 0 d in
-      let f : take b.held b.places ≡ p ∷ q = first_is d n in
-      let l : suc (length q) ≡ b.held = sym (ap length f) ∙ held_length r in
-      let k' : ps ≡ padded (p ∷ q) = rw f at k in
-      let e' : v ≡ void_of p.entry = e ∙ ap (λ (xs : List Place). void_of (get_or xs 0 d).entry) k' ∙ ap (λ (x : Place). void_of x.entry) (first_of p q d) in
-      rw (f, l, e', k', padded_first p (place (void_of p.entry)) q)
 
 -- ---- an acknowledgement by its tests
 pub heard_in : (b : Outbox) (life n : ℕ) → is_heard b life n ≡ true → (life ≡ b.life) × (oldest_of b < n) × (n ≤ b.next)

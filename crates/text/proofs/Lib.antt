@@ -2,11 +2,12 @@
 pub mod Zeros
 pub mod Printable
 pub mod Settled
-pub mod CardEnds
-pub mod CardLaws
-pub mod CardTexts
-pub mod LineLaws
-pub mod PrintLaws
+-- laws of the texts, for the crates above
+pub mod WrittenLaws
 pub mod ReadingLaws
 pub mod VoidLaws
-pub mod WrittenLaws
+pub mod CardLaws
+pub mod CardTexts
+pub mod CardEnds
+pub mod LineLaws
+pub mod PrintLaws

@@ -6,5 +6,5 @@ pub mod Voids
 pub mod Cards
 pub mod Printed
 pub mod Cases
--- laws of these
+-- a law of these; the others stand in proofs/
 pub mod BehindLaws

@@ -1,7 +1,8 @@
 use mathlib.Core.Bool.{not}
 use mathlib.Core.Path.{ap}
 use Rattle.outbox.specs.Outbox.{is_heard}
-use Rattle.outbox.specs.Laws.{passed, failed, form_in, bad_heard, not_heard, heard_in, heard_is, without_is}
+use Rattle.outbox.proofs.Changed.{without_is}
+use Rattle.outbox.specs.Laws.{passed, failed, form_in, bad_heard, not_heard, heard_in, heard_is}
 use Rattle.outbox.proofs.Room.{unmapped}
 use mathlib.Core.Path.{◌≡◌, refl}
 use mathlib.Core.Bool.{true, false}

@@ -1,6 +1,7 @@
 use mathlib.Core.Bool.{not}
 use Rattle.outbox.specs.Outbox.{replaced_of, replacing}
-use Rattle.outbox.specs.Laws.{passed, failed, form_in, holds_none, replaced_is}
+use Rattle.outbox.proofs.Changed.{replaced_is}
+use Rattle.outbox.specs.Laws.{passed, failed, form_in, holds_none}
 use Rattle.outbox.proofs.Room.{unmapped}
 use mathlib.Core.Path.{◌≡◌, ap}
 use lib.ListN.{length}

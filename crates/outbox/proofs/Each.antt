@@ -7,7 +7,8 @@ use Rattle.outbox.specs.declared.Outbox.{Outbox}
 use Rattle.outbox.specs.declared.Place.{Place}
 use Rattle.outbox.specs.Outbox.{void_of, place, spare, padded, held_of, box_of, oldest_of, fresh_of, offer_of, added_of, replaced_of, acknowledged_of, swapped_of}
 use Rattle.outbox.specs.Counts.{Among}
-use Rattle.outbox.specs.CallLaws.{brought, fresh_is, Adds, adds, Offers, offers, Removes, removes, Swaps, swaps}
+use Rattle.outbox.specs.Brought.{brought}
+use Rattle.outbox.proofs.CallLaws.{fresh_is, Adds, adds, Offers, offers, Removes, removes, Swaps, swaps}
 
 module _ (P : Place → Type 0) where
   abbrev pub Each : List Place → Type 0

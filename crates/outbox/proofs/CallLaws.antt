@@ -13,16 +13,10 @@ use Rattle.cell.specs.Ranges.{notice_of}
 use Rattle.outbox.specs.declared.Place.{Place}
 use Rattle.outbox.specs.declared.Outbox.{Outbox}
 use Rattle.outbox.specs.declared.Given.{Given}
-use Rattle.outbox.specs.declared.Offered.{Offered}
-use Rattle.outbox.specs.declared.Offered.TheVariants.{Oldest, Empty, BadForm}
+use Rattle.outbox.specs.declared.Offered.TheVariants.{Oldest}
 use Rattle.outbox.specs.Outbox.{bad_form, not_next, full, notice, void_of, same, place, held_of, box_of, oldest_of, form_ok, given, unless, fresh_of, oldest, offer_of, is_next, with_entry, added_of, replacing, replaced_of, is_heard, without, acknowledged_of, is_higher, swapped_of}
+use Rattle.outbox.specs.Brought.{brought}
 use Rattle.outbox.specs.Laws.{same_is, held_is, heard_in}
-
--- what an offer brings: one entry or none
-abbrev pub brought : Offered → List Entry
-brought (Oldest e) = e ∷ []
-brought Empty = []
-brought BadForm = []
 
 -- something of an outbox's cell, life, next count, number held, and what it holds
 abbrev pub Has : (ℕ → ℕ → ℕ → ℕ → List Place → Type 0) → Outbox → Type 0
