@@ -98,7 +98,8 @@ fn check(card: Card, from: &[u32], w: usize, to: &[u32], v: usize, empty: bool) 
         return 2;
     }
     let seen = look(card, from, w);
-    if !seen.in_range {
+    let out_of_range = !seen.in_range;
+    if out_of_range {
         return 5;
     }
     if empty & !seen.bare {
@@ -122,7 +123,8 @@ pub fn moved(
     ensures { MoveGives w p out more empty card from.now to.old result to.new }
 {
     let number = check(card, from, w, to, w - out + more, empty);
-    if number == 0 {
+    let passed = number == 0;
+    if passed {
         recut_all(from, to, card.cells as usize, w, p, out, more);
     }
     number

@@ -1,7 +1,6 @@
 use mathlib.Core.Path.{◌≡◌, refl, sym, ◌∙◌}
 use mathlib.Core.Bool.{Bool, not}
 use Prim.Native.Nat.{ℕ}
-use borrow.Author.Tests.{lt-ltb, le-ltb}
 use lib.IntN.{ℤ}
 use Rattle.head.specs.Class.{class_of}
 use Rattle.cell.specs.declared.Entry.{Entry}
@@ -43,15 +42,15 @@ returns-then-not-fields_ok c =
     let s = c.args in
     by_checks s.top.0 s.fits s.life s.next s.r (c.if-not-fits.false) (sym c.is_old.ensures ∙ c.if-is_old.false) (sym c.is_gap.ensures ∙ c.if-is_gap.false) (sym c.fields_ok.ensures ∙ c.if-not-fields_ok.true) refl
 
-pub returns-then-r-gt600000 : goal.returns-then-r-gt600000
+pub returns-then-is_jammed : goal.returns-then-is_jammed
 unfolding unless
-returns-then-r-gt600000 c =
+returns-then-is_jammed c =
     let s = c.args in
-    by_checks s.top.0 s.fits s.life s.next s.r (c.if-not-fits.false) (sym c.is_old.ensures ∙ c.if-is_old.false) (sym c.is_gap.ensures ∙ c.if-is_gap.false) (sym c.fields_ok.ensures ∙ c.if-not-fields_ok.false) (lt-ltb _ _ c.if-r-gt600000.true)
+    by_checks s.top.0 s.fits s.life s.next s.r (c.if-not-fits.false) (sym c.is_old.ensures ∙ c.if-is_old.false) (sym c.is_gap.ensures ∙ c.if-is_gap.false) (sym c.fields_ok.ensures ∙ c.if-not-fields_ok.false) (sym c.is_jammed.ensures ∙ c.if-is_jammed.true)
 
 pub returns : goal.returns
 unfolding unless
 returns c =
     let s = c.args in
     rw (c.sound.ensures, c.classify.ensures)
-    (by_checks s.top.0 s.fits s.life s.next s.r (c.if-not-fits.false) (sym c.is_old.ensures ∙ c.if-is_old.false) (sym c.is_gap.ensures ∙ c.if-is_gap.false) (sym c.fields_ok.ensures ∙ c.if-not-fields_ok.false) (le-ltb _ _ c.if-r-gt600000.false))
+    (by_checks s.top.0 s.fits s.life s.next s.r (c.if-not-fits.false) (sym c.is_old.ensures ∙ c.if-is_old.false) (sym c.is_gap.ensures ∙ c.if-is_gap.false) (sym c.fields_ok.ensures ∙ c.if-not-fields_ok.false) (sym c.is_jammed.ensures ∙ c.if-is_jammed.false))

@@ -1,4 +1,4 @@
-use borrow.Author.Tests.{not-true, not-false}
+use Rattle.std.proofs.lemmas.Grind.{common_steps}
 use native.Mathlib.Omega.{arith}
 use mathlib.Core.Path.{◌≡◌, refl, ap, sym, ◌∙◌}
 use mathlib.Core.Bool.{Bool, true, false, cond, not, ◌&&◌}
@@ -50,17 +50,20 @@ look-seen-requires c =
       rows_fit = (c.requires.0, c.if-from-w.false);
     }
 
-pub returns-then-not-seen : goal.returns-then-not-seen
-returns-then-not-seen c =
+pub returns-then-out_of_range : goal.returns-then-out_of_range
+returns-then-out_of_range c =
     let a = c.args in
-    move_by a.w a.v a.empty a.card a.from.now a.to.now (sym c.card_ok.ensures ∙ c.if-not-card_ok.false) (both_long a.w a.v a.empty a.card a.from.now a.to.now c.if-from-w.false c.if-to-v.false) (sym c.look-seen.ensures.in_range ∙ not-true _ c.if-not-seen.true) refl
+    let seen : c.look-seen.result.in_range ≡ false = grind (arith, common_steps) in
+    move_by a.w a.v a.empty a.card a.from.now a.to.now (sym c.card_ok.ensures ∙ c.if-not-card_ok.false) (both_long a.w a.v a.empty a.card a.from.now a.to.now c.if-from-w.false c.if-to-v.false) (sym c.look-seen.ensures.in_range ∙ seen) refl
 
 pub returns-then-empty-seen : goal.returns-then-empty-seen
 returns-then-empty-seen c =
     let a = c.args in
-    move_by a.w a.v a.empty a.card a.from.now a.to.now (sym c.card_ok.ensures ∙ c.if-not-card_ok.false) (both_long a.w a.v a.empty a.card a.from.now a.to.now c.if-from-w.false c.if-to-v.false) (sym c.look-seen.ensures.in_range ∙ not-false _ c.if-not-seen.false) (bare-by a.empty c.look-seen.ensures.bare c.if-empty-seen.true)
+    let seen : c.look-seen.result.in_range ≡ true = grind (arith, common_steps) in
+    move_by a.w a.v a.empty a.card a.from.now a.to.now (sym c.card_ok.ensures ∙ c.if-not-card_ok.false) (both_long a.w a.v a.empty a.card a.from.now a.to.now c.if-from-w.false c.if-to-v.false) (sym c.look-seen.ensures.in_range ∙ seen) (bare-by a.empty c.look-seen.ensures.bare c.if-empty-seen.true)
 
 pub returns : goal.returns
 returns c =
     let a = c.args in
-    move_by a.w a.v a.empty a.card a.from.now a.to.now (sym c.card_ok.ensures ∙ c.if-not-card_ok.false) (both_long a.w a.v a.empty a.card a.from.now a.to.now c.if-from-w.false c.if-to-v.false) (sym c.look-seen.ensures.in_range ∙ not-false _ c.if-not-seen.false) (bare-by a.empty c.look-seen.ensures.bare c.if-empty-seen.false)
+    let seen : c.look-seen.result.in_range ≡ true = grind (arith, common_steps) in
+    move_by a.w a.v a.empty a.card a.from.now a.to.now (sym c.card_ok.ensures ∙ c.if-not-card_ok.false) (both_long a.w a.v a.empty a.card a.from.now a.to.now c.if-from-w.false c.if-to-v.false) (sym c.look-seen.ensures.in_range ∙ seen) (bare-by a.empty c.look-seen.ensures.bare c.if-empty-seen.false)
