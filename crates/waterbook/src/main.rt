@@ -1,7 +1,8 @@
 // Reads a journal from standard input and prints its book.
 #![tactic(auto)]
 
-ghost use Rattle.std.specs.Prelude.{◌≡◌, ◌≤◌, length, IfOk};
+ghost use Rattle.std.specs.Prelude.{◌≡◌, ◌≤◌, ◌<◌, length, take, IfOk};
+ghost use Rattle.std.specs.Io.KnownBytes.{Consumes, IsAtEnd};
 
 use std::io;
 use std::io::Read;
@@ -21,8 +22,10 @@ fn book_room() -> [u8; 327985]
 }
 
 // Reads until the buffer is full or the input has ended, and returns how many bytes that were.
-fn read_full(from: &mut impl Read, into: &mut [u8]) -> io::Result<usize>
-    ensures { IfOk result (λ n. n ≤ length into.old) }
+fn read_full<R: Read>(from: &mut R, into: &mut [u8]) -> io::Result<usize>
+    ensures within { IfOk result (λ n. n ≤ length into.old) }
+    ensures bytes { IfOk result (λ n. Consumes (R.remaining from.old) (R.remaining from.new) (take n into.new)) }
+    ensures whole { IfOk result (λ n. n < length into.old → IsAtEnd (R.remaining from.new)) }
 {
     let mut filled = 0;
     while filled < into.len() {
