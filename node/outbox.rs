@@ -43,7 +43,7 @@ use core::fmt;
 /// The version of the library; include/outbox.h says what raises which part.
 pub const VERSION_MAJOR: u32 = 1;
 pub const VERSION_MINOR: u32 = 1;
-pub const VERSION_PATCH: u32 = 0;
+pub const VERSION_PATCH: u32 = 1;
 /// The version as one number.
 pub const VERSION: u32 = 1_000_000 * VERSION_MAJOR + 1_000 * VERSION_MINOR + VERSION_PATCH;
 
@@ -61,11 +61,11 @@ pub const VOID: u32 = 1;
 
 /// The stack that each raw call needs in bytes, as include/outbox.h says it; a caller's own frames come on top.
 pub const STACK_FRESH: usize = 1_664;
-pub const STACK_OFFER: usize = 4_928;
-pub const STACK_ADD: usize = 8_192;
-pub const STACK_REPLACE: usize = 9_600;
-pub const STACK_ACKNOWLEDGE: usize = 7_680;
-pub const STACK_SWAP: usize = 4_928;
+pub const STACK_OFFER: usize = 3_264;
+pub const STACK_ADD: usize = 4_800;
+pub const STACK_REPLACE: usize = 4_800;
+pub const STACK_ACKNOWLEDGE: usize = 4_800;
+pub const STACK_SWAP: usize = 4_800;
 
 /// The number of a raw call that was done.
 pub const DONE: u32 = 0;

@@ -60,7 +60,7 @@ extern "C" {
  * comes, or a stack stated below grows: build the host again. PATCH rises where none of this is so, as for speed. */
 #define OUTBOX_VERSION_MAJOR 1
 #define OUTBOX_VERSION_MINOR 1
-#define OUTBOX_VERSION_PATCH 0
+#define OUTBOX_VERSION_PATCH 1
 #define OUTBOX_VERSION (1000000 * OUTBOX_VERSION_MAJOR + 1000 * OUTBOX_VERSION_MINOR + OUTBOX_VERSION_PATCH)
 
 /* The number that a call returns. */
@@ -100,11 +100,11 @@ enum {
  * with -z now, or statically. */
 enum {
     OUTBOX_STACK_FRESH = 1664,
-    OUTBOX_STACK_OFFER = 4928,
-    OUTBOX_STACK_ADD = 8192,
-    OUTBOX_STACK_REPLACE = 9600,
-    OUTBOX_STACK_ACKNOWLEDGE = 7680,
-    OUTBOX_STACK_SWAP = 4928
+    OUTBOX_STACK_OFFER = 3264,
+    OUTBOX_STACK_ADD = 4800,
+    OUTBOX_STACK_REPLACE = 4800,
+    OUTBOX_STACK_ACKNOWLEDGE = 4800,
+    OUTBOX_STACK_SWAP = 4800
 };
 
 /* An empty outbox of that cell: life 0, next 0, nothing held, all places zero. What stood in box is not looked at.

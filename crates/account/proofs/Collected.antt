@@ -1,4 +1,5 @@
 -- [6] COLLECTED PLUS STILL HELD IS WHAT THE ANSWERS REPORTED, over any run of steps, voids, collections and moves; and how long 15 cannot come. Assumes nothing.
+use Rattle.std.specs.Prelude.{Result, Ok, Err}
 use mathlib.Core.Path.{◌≡◌, refl, ap, sym, subst, ◌∙◌}
 use mathlib.Core.Bool.{Bool, true, false, cond}
 use mathlib.Core.List.{List, [], ◌∷◌}
@@ -8,12 +9,13 @@ use borrow.Author.Tests.{eqb-true, eqb-false}
 use lib.Dec.{eqb}
 use lib.IntN.{ℤ}
 use lib.ListN.{length}
+use Rattle.cell.specs.Answers.{Answer}
 use Rattle.cell.specs.declared.Amounts.{Amounts}
-use Rattle.cell.specs.declared.Answer.{Answer}
-use Rattle.cell.specs.declared.Answer.TheVariants.{Accepted, Refused}
 use Rattle.cell.specs.declared.Card.{Card}
 use Rattle.cell.specs.declared.Collected.{Collected}
 use Rattle.cell.specs.declared.Entry.{Entry}
+use Rattle.cell.specs.declared.Refusal.{Refusal}
+use Rattle.cell.specs.Refusals.{number_of}
 use Rattle.cell.specs.declared.Refusal.TheVariants.{FullSums}
 use Rattle.cell.specs.Ranges.{card_ok, row_width, cell_of}
 use Rattle.cell.specs.RangeLaws.{cleared_sum}
@@ -21,7 +23,7 @@ use Rattle.cell.specs.Sums.{front_width, runoff_at, drain_at, sum_limit, sum_of}
 use Rattle.cell.proofs.SumLaws.{short_sum}
 use Rattle.cell.specs.Step.{answer_of, new_row}
 use Rattle.cell.proofs.AnswerLaws.{runoff_after, drain_after, amounts_in, room_enough}
-use Rattle.cell.specs.Collect.{collected_by, list_by}
+use Rattle.cell.specs.Collect.{collected_by, sums_of, list_by}
 use Rattle.site.specs.Rows.{part_at}
 use Rattle.site.specs.RowsLaws.{part_length, room}
 use Rattle.site.specs.Site.{soil_width, site_answer, site_rows, SiteGives, ClearGives}
@@ -41,7 +43,7 @@ module _ (card : Card) (p : ℕ) (h : p < card.cells) (k : Sum) where
   at row = sum_of (place_of k) row
 
   -- ---- one call. An accepted step adds its amount to the row's sum
-  grew : (soil : List ℤ) (row : List ℕ) (i : Entry) (a : Amounts) → answer_of card soil row i ≡ Accepted a → at (new_row card soil row i) ≡ at row + amount_of k a
+  grew : (soil : List ℤ) (row : List ℕ) (i : Entry) (a : Amounts) → answer_of card soil row i ≡ Ok a → at (new_row card soil row i) ≡ at row + amount_of k a
   grew soil row i a e = go k
     where
       go : (j : Sum) → sum_of (place_of j) (new_row card soil row i) ≡ sum_of (place_of j) row + amount_of j a
@@ -55,8 +57,8 @@ module _ (card : Card) (p : ℕ) (h : p < card.cells) (k : Sum) where
       here = g.rows_are
 
       go : (b : Answer) → site_answer card c.soil rows c.entry ≡ b → held rows + sum (amount_of k) (noted card p rows c b l) ≡ sum (amount_of k) l + held next
-      go (Refused why) e = let n : held next ≡ held rows = ap held (here ∙ rows_stay card c.soil rows c.entry why e) in omega arith
-      go (Accepted a) e = named (eqb (cell_of c.entry) p) refl
+      go (Err why) e = let n : held next ≡ held rows = ap held (here ∙ rows_stay card c.soil rows c.entry why e) in omega arith
+      go (Ok a) e = named (eqb (cell_of c.entry) p) refl
         where
           ok : card_ok card ≡ true
           ok = card_was card c.soil rows c.entry a e
@@ -81,7 +83,7 @@ module _ (card : Card) (p : ℕ) (h : p < card.cells) (k : Sum) where
           named false i = let o = ap at (other_row card c.soil rows c.entry a e p (eqb-false (cell_of c.entry) p i)) in omega (arith, before_is, after_is, o)
 
   -- collecting gives what was held, and nothing is held then
-  by_collecting : {rows next : List ℕ} {cell : ℕ} {sums : Collected} → SumsGive card rows cell sums next → held rows ≡ cond (eqb cell p) (got_of k sums) 0 + held next
+  by_collecting : {rows next : List ℕ} {cell : ℕ} {sums : Result Collected Refusal} → SumsGive card rows cell sums next → held rows ≡ cond (eqb cell p) (got_of k (sums_of sums)) 0 + held next
   by_collecting {rows} {next} {cell} {sums} g = rw g.got_is (go (collecting_number card rows cell) refl (eqb cell p) refl)
     where
       all_got : (j : Sum) (l : List ℕ) → got_of j (collected_by 0 l) ≡ sum_of (place_of j) l
@@ -176,7 +178,7 @@ module _ (card : Card) (p : ℕ) (h : p < card.cells) (k : Sum) where
   nothing_lost z went = omega (arith, balanced [] went)
 
   -- so from cleared rows, from rows that were just moved over, and from a plot that was just collected
-  pub cleared_holds : {rows cleared : List ℕ} → ClearGives card rows 0 cleared → held cleared ≡ 0
+  pub cleared_holds : {rows cleared : List ℕ} → ClearGives card rows (Ok tt) cleared → held cleared ≡ 0
   cleared_holds g = ap at (cleared_in card g p h) ∙ cleared_sum (row_width card) (place_of k)
 
   pub moved_holds : {rows to new : List ℕ} → GrowGives card rows to 0 new → held new ≡ 0
@@ -185,7 +187,7 @@ module _ (card : Card) (p : ℕ) (h : p < card.cells) (k : Sum) where
       let f : new ≡ grown_rows card rows = g.rows_are ∙ rw z in
       ap held f ∙ grown_holds rows to z
 
-  pub collected_holds : {rows next : List ℕ} {sums : Collected} → SumsGive card rows p sums next → sums.number ≡ 0 → held next ≡ 0
+  pub collected_holds : {rows next : List ℕ} {sums : Result Collected Refusal} → SumsGive card rows p sums next → number_of sums ≡ 0 → held next ≡ 0
   collected_holds {rows} {next} {sums} g z = go (collecting_number card rows p) refl
     where
       none_left : (j : Sum) → collecting_number card rows p ≡ 0 → sum_of (place_of j) (row_of card p (collected_rows card p rows)) ≡ 0
@@ -198,12 +200,10 @@ module _ (card : Card) (p : ℕ) (h : p < card.cells) (k : Sum) where
           ap held f
           ∙ ap at (sums_row card (collected_rows card p rows) p (collect_card card rows p e) (collect_length card rows p e ∙ collect_long card rows p e))
           ∙ none_left k e
-      go (suc n) e =
-          let f : sums ≡ collected_by (suc n) (row_of card p rows) = g.got_is ∙ rw e in
-          absurd (let m = ap (λ (s : Collected). s.number) f in omega arith)
+      go (suc n) e = let m : 0 ≡ suc n = sym z ∙ g.number_is ∙ e in absurd (omega arith)
 
   -- ---- each step adds at most so much
-  few : (l : History) (soil : List ℤ) (row : List ℕ) (i : Entry) (a : Amounts) → answer_of card soil row i ≡ Accepted a
+  few : (l : History) (soil : List ℤ) (row : List ℕ) (i : Entry) (a : Amounts) → answer_of card soil row i ≡ Ok a
       → sum (amount_of k) l ≤ most_of k * length l → sum (amount_of k) (step_of card soil row i a ∷ l) ≤ most_of k * length (step_of card soil row i a ∷ l)
   few l soil row i a e v = go k v
     where
@@ -223,7 +223,7 @@ module _ (card : Card) (p : ℕ) (h : p < card.cells) (k : Sum) where
 -- ---- 15 cannot come in the first 50,000,000 accepted steps of a plot after its sums were 0
 pub never_full : (card : Card) (p : ℕ) → p < card.cells → {rows after : List ℕ} {acts : List Act} {outs : List Outcome} → ((k : Sum) → held_in card p k rows ≡ 0)
     → (went : Went card rows acts outs after) → length (history_in p [] went) < safe_steps
-    → (c : Call) → cell_of c.entry ≡ p → ¬ (site_answer card c.soil after c.entry ≡ Refused FullSums)
+    → (c : Call) → cell_of c.entry ≡ p → ¬ (site_answer card c.soil after c.entry ≡ Err FullSums)
 never_full card p h {rows} {after} z went n c e f =
     let r = full_reached card c.soil after c.entry f in
     let ran = held_most card p h ran_off (z ran_off) went in

@@ -1,4 +1,5 @@
 -- DEMAND 3. For any plot of a site, from its cleared row, over the answers that the site's step gave to any calls in any order, refused ones and other plots' among them. Assumes nothing.
+use Rattle.std.specs.Prelude.{Ok}
 use mathlib.Core.Path.{◌≡◌, refl, sym, ap, ◌∙◌}
 use mathlib.Core.Bool.{true, ◌&&◌}
 use mathlib.Core.Logic.{inr}
@@ -6,14 +7,12 @@ use mathlib.Core.List.{List, [], ◌∷◌, ◌++◌}
 use Prim.Native.Nat.{ℕ, zero, suc, ◌+◌, ◌-◌, ◌<◌, min}
 use lib.IntN.{ℤ, pos}
 use lib.ListN.{take, drop, get_or, replicate}
+use Rattle.cell.specs.Answers.{Answer}
 use Rattle.cell.specs.declared.Amounts.{Amounts}
-use Rattle.cell.specs.declared.Answer.{Answer}
-use Rattle.cell.specs.declared.Answer.TheVariants.{Accepted}
 use Rattle.cell.specs.declared.Card.{Card}
 use Rattle.cell.specs.declared.Depth.{Depth}
 use Rattle.cell.specs.declared.Entry.{Entry}
 use Rattle.cell.specs.declared.Notice.{Notice}
-use Rattle.cell.specs.declared.checks.Verdict.TheVariants.{Fine}
 use Rattle.cell.specs.Ranges.{card_ok, soil_ok, soil_of, row_width, row_ok, notice_ok, notice_of, cell_of, life_of, next_of, queue_of}
 use Rattle.cell.specs.RangeLaws.{cleared_queue}
 use Rattle.cell.specs.Refusals.{fields_verdict}
@@ -40,7 +39,7 @@ demand3 card p e ran =
     (rw (e, cleared_queue (row_width card) card.delays) (start (min card.delays (row_width card - 2))))
 
 -- the same from rows that `site::clear` has cleared
-pub after_clearing : (card : Card) (p : ℕ) {rows cleared after : List ℕ} {cs : List Call} {answers : List Answer} → ClearGives card rows 0 cleared → p < card.cells
+pub after_clearing : (card : Card) (p : ℕ) {rows cleared after : List ℕ} {cs : List Call} {answers : List Answer} → ClearGives card rows (Ok tt) cleared → p < card.cells
     → (ran : Ran card cleared cs answers after) → Kept (history_of p [] ran) (queue_of card.delays (row_of card p after))
 after_clearing card p {rows} g h ran = demand3 card p (rw g.rows_are (cleared_part card rows (sym g.number_is) p h)) ran
 
@@ -67,10 +66,10 @@ in_order card p e ran = (along card p Ordered (goes_on card) [] ran (rw e (begin
 pub fresh_life : (card : Card) (soil : List ℤ) (rows : List ℕ) (i : Entry) (d : Depth)
     → card_ok card ≡ true → (soil_fits card soil && rows_fit card rows) ≡ true → cell_fits card i ≡ true
     → soil_ok (part_at soil_width (cell_of i) soil) ≡ true → row_ok card (row_of card (cell_of i) rows) ≡ true
-    → fields_verdict (get_or (part_at soil_width (cell_of i) soil) 0 (pos 0)) i ≡ Fine d
+    → fields_verdict (get_or (part_at soil_width (cell_of i) soil) 0 (pos 0)) i ≡ Ok d
     → sums_take card (soil_of (part_at soil_width (cell_of i) soil)) i d (row_of card (cell_of i) rows) ≡ true
     → life_of (row_of card (cell_of i) rows) < (notice_of i).life → (notice_of i).count ≡ 0
-    → site_answer card soil rows i ≡ Accepted (amounts_by card (soil_of (part_at soil_width (cell_of i) soil)) i d (queue_of card.delays (row_of card (cell_of i) rows)))
+    → site_answer card soil rows i ≡ Ok (amounts_by card (soil_of (part_at soil_width (cell_of i) soil)) i d (queue_of card.delays (row_of card (cell_of i) rows)))
 fresh_life card soil rows i d c l k s w f room young zero-count =
     let row = row_of card (cell_of i) rows in
     let o : InOrder (life_of row) (next_of row) (notice_of i) = inr (young, zero-count) in
@@ -84,7 +83,7 @@ pub void_passes : (card : Card) (soil : List ℤ) (rows : List ℕ) (n : Notice)
     → card_ok card ≡ true → (soil_fits card soil && rows_fit card rows) ≡ true → cell_fits card (Entry.Void n) ≡ true
     → soil_ok (part_at soil_width n.cell soil) ≡ true → row_ok card (row_of card n.cell rows) ≡ true
     → notice_ok n ≡ true → InOrder (life_of (row_of card n.cell rows)) (next_of (row_of card n.cell rows)) n
-    → SiteGives card soil rows (Entry.Void n) (Accepted (shift_amounts (queue_of card.delays (row_of card n.cell rows))))
+    → SiteGives card soil rows (Entry.Void n) (Ok (shift_amounts (queue_of card.delays (row_of card n.cell rows))))
     (put_at (row_width card) n.cell
     (added drain_at 0 (added runoff_at 0 (n.life ∷ (n.count + 1) ∷ (shifted (queue_of card.delays (row_of card n.cell rows)) ++ drop card.delays (drop 2 (row_of card n.cell rows)))))) rows)
 void_passes card soil rows n c l k s w f o =
@@ -95,7 +94,7 @@ void_passes card soil rows n c l k s w f o =
     (sym (rows_reached card soil rows (Entry.Void n) l k ∙ ap (λ (t : List ℕ). put_at (row_width card) n.cell t rows) (void_row card own row n c s w f o)))
 
 -- and its step puts nothing into any group and draws from none; the group whose step it is, which stood in slot 1, is released
-pub void_step : (card : Card) (soil : List ℤ) (row : List ℕ) (n : Notice) (a : Amounts) → answer_of card soil row (Entry.Void n) ≡ Accepted a → (k t : ℕ)
+pub void_step : (card : Card) (soil : List ℤ) (row : List ℕ) (n : Notice) (a : Amounts) → answer_of card soil row (Entry.Void n) ≡ Ok a → (k t : ℕ)
     → (put k (step_of card soil row (Entry.Void n) a) t ≡ 0) × (drew k (step_of card soil row (Entry.Void n) a) t ≡ 0)
     × (freed k (step_of card soil row (Entry.Void n) a) k ≡ slot (queue_of card.delays row) 1)
 void_step card soil row n a e k t =

@@ -1,4 +1,5 @@
 -- Demand 3 holds at the start and is kept by each accepted step; and what each accepted step of a plot's row keeps, a run of the site keeps. Assumes nothing.
+use Rattle.std.specs.Prelude.{Ok, Err}
 use mathlib.Core.Path.{◌≡◌, refl, sym, subst, ◌∙◌}
 use mathlib.Core.Bool.{Bool, true, false, cond}
 use mathlib.Core.List.{List, [], ◌∷◌}
@@ -8,9 +9,8 @@ use borrow.Author.Tests.{eqb-true, eqb-false}
 use lib.Dec.{eqb}
 use lib.IntN.{ℤ}
 use lib.ListN.{length, replicate}
+use Rattle.cell.specs.Answers.{Answer}
 use Rattle.cell.specs.declared.Amounts.{Amounts}
-use Rattle.cell.specs.declared.Answer.{Answer}
-use Rattle.cell.specs.declared.Answer.TheVariants.{Accepted, Refused}
 use Rattle.cell.specs.declared.Card.{Card}
 use Rattle.cell.specs.declared.Entry.{Entry}
 use Rattle.cell.specs.Ranges.{cell_of}
@@ -42,11 +42,11 @@ step {h} {q} {q'} s m v =
 
 -- what holds of plot p's history and row, and is kept by each step that the row takes, is kept by a run
 module _ (card : Card) (p : ℕ) (I : History → List ℕ → Type 0)
-    (keep : (h : History) (soil : List ℤ) (row : List ℕ) (i : Entry) (a : Amounts) → answer_of card soil row i ≡ Accepted a → I h row → I (step_of card soil row i a ∷ h) (new_row card soil row i)) where
+    (keep : (h : History) (soil : List ℤ) (row : List ℕ) (i : Entry) (a : Amounts) → answer_of card soil row i ≡ Ok a → I h row → I (step_of card soil row i a ∷ h) (new_row card soil row i)) where
   pub one : (h : History) (rows : List ℕ) (c : Call) (answer : Answer) → site_answer card c.soil rows c.entry ≡ answer → I h (row_of card p rows)
       → I (noted card p rows c answer h) (row_of card p (site_rows card c.soil rows c.entry))
-  one h rows c (Refused why) e v = rw (rows_stay card c.soil rows c.entry why e) v
-  one h rows c (Accepted a) e v = named (eqb (cell_of c.entry) p) refl
+  one h rows c (Err why) e v = rw (rows_stay card c.soil rows c.entry why e) v
+  one h rows c (Ok a) e v = named (eqb (cell_of c.entry) p) refl
     where
       after : List ℕ
       after = site_rows card c.soil rows c.entry

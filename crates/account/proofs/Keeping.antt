@@ -1,4 +1,5 @@
 -- [6] Runs with collections and moves among the calls: neither is a step, and both keep a plot's life, next count and slots. So DEMAND 3 holds over them. Assumes nothing.
+use Rattle.std.specs.Prelude.{Result, Ok, Err}
 use mathlib.Core.Path.{◌≡◌, refl, ap, sym, subst, ◌∙◌}
 use mathlib.Core.Bool.{true}
 use mathlib.Core.Logic.{◌⊎◌, inl, inr}
@@ -9,24 +10,24 @@ use native.Mathlib.Decide.{ℕ_discrete}
 use borrow.Author.Tests.{eq-eqb, ne_eqb}
 use lib.IntN.{ℤ}
 use lib.ListN.{length, replicate}
+use Rattle.cell.specs.Answers.{Answer}
 use Rattle.cell.specs.declared.Amounts.{Amounts}
-use Rattle.cell.specs.declared.Answer.{Answer}
-use Rattle.cell.specs.declared.Answer.TheVariants.{Accepted, Refused}
 use Rattle.cell.specs.declared.Card.{Card}
 use Rattle.cell.specs.declared.Collected.{Collected}
 use Rattle.cell.specs.declared.Entry.{Entry}
+use Rattle.cell.specs.declared.Refusal.{Refusal}
 use Rattle.cell.specs.Ranges.{card_ok, row_width, queue_of}
 use Rattle.cell.specs.RangeLaws.{card_in, cleared_queue}
 use Rattle.cell.specs.Step.{answer_of, new_row}
 use Rattle.cell.proofs.AnswerLaws.{moves}
 use Rattle.cell.specs.Sums.{front_width}
 use Rattle.cell.proofs.SumLaws.{SameFront, front_queue}
-use Rattle.cell.specs.Collect.{collected_by, list_by}
+use Rattle.cell.specs.Collect.{list_by}
 use Rattle.site.specs.Rows.{part_at}
 use Rattle.site.specs.Site.{site_answer, site_rows, SiteGives, clear_rows, ClearGives}
 use Rattle.site.proofs.SiteLaws.{gives, card_was, rows_long, rows_length, rows_stay, clear_passed, cleared_part}
-use Rattle.site.specs.Forms.{grow_number, grown_rows, GrowGives, shrink_number, shrunk_rows, ShrinkGives, collecting_number, collected_rows, SumsGive}
-use Rattle.site.specs.FormLaws.{grow_card, grown_front, grown_length, grow_long, shrink_card, shrunk_front, shrunk_length, shrink_long, collect_card, collect_front, collect_long, collect_length, other_kept}
+use Rattle.site.specs.Forms.{grow_number, grown_rows, GrowGives, shrink_number, shrunk_rows, ShrinkGives, collecting_number, collecting_answer, collected_rows, SumsGive}
+use Rattle.site.specs.FormLaws.{grow_card, grown_front, grown_length, grow_long, shrink_card, shrunk_front, shrunk_length, shrink_long, collect_card, collect_front, collect_long, collect_length, other_kept, sums_give}
 use Rattle.account.specs.Ledger.{History, Kept, InSequence}
 use Rattle.account.specs.Run.{Call, row_of, step_of, noted}
 use Rattle.account.specs.Keeping.{width_in, row_in, Act, enter, collect, over, back, Outcome, answered, got, moved, Went, done, entered, collected, went_over, went_back, history_in}
@@ -48,7 +49,7 @@ module _ (card : Card) (rows : List ℕ) where
   sums_row p ok e = ap (λ (w : ℕ). part_at w p rows) (sums_width_lem ok e)
 
 -- a cleared site's rows have sums, and all is 0 in them
-pub cleared_in : (card : Card) {rows cleared : List ℕ} → ClearGives card rows 0 cleared → (p : ℕ) → p < card.cells → row_in card p cleared ≡ replicate (row_width card) 0
+pub cleared_in : (card : Card) {rows cleared : List ℕ} → ClearGives card rows (Ok tt) cleared → (p : ℕ) → p < card.cells → row_in card p cleared ≡ replicate (row_width card) 0
 cleared_in card {rows} {cleared} g p h =
     let z = sym g.number_is in
     let c = clear_passed card rows z in
@@ -59,7 +60,7 @@ abbrev pub Quiet : Card → ℕ → List ℕ → List ℕ → Type 0
 Quiet card p rows next = (next ≡ rows) ⊎ ((card_ok card ≡ true) × SameFront (row_in card p rows) (row_in card p next))
 
 module _ (card : Card) (p : ℕ) (h : p < card.cells) where
-  pub quiet_collect : {rows next : List ℕ} {cell : ℕ} {sums : Collected} → SumsGive card rows cell sums next → Quiet card p rows next
+  pub quiet_collect : {rows next : List ℕ} {cell : ℕ} {sums : Result Collected Refusal} → SumsGive card rows cell sums next → Quiet card p rows next
   quiet_collect {rows} {next} {cell} g = go (collecting_number card rows cell) refl
     where
       at : (j : ℕ) → collecting_number card rows cell ≡ 0 → Dec (cell ≡ j) → SameFront (row_of card j rows) (row_of card j (collected_rows card cell rows))
@@ -98,7 +99,7 @@ module _ (card : Card) (p : ℕ) (h : p < card.cells) where
 
 -- ---- what is kept by each step that a row takes, and by rows that begin the same, is kept by such a run
 module _ (card : Card) (p : ℕ) (h : p < card.cells) (I : History → List ℕ → Type 0)
-    (keep : (l : History) (soil : List ℤ) (row : List ℕ) (i : Entry) (a : Amounts) → answer_of card soil row i ≡ Accepted a → I l row → I (step_of card soil row i a ∷ l) (new_row card soil row i))
+    (keep : (l : History) (soil : List ℤ) (row : List ℕ) (i : Entry) (a : Amounts) → answer_of card soil row i ≡ Ok a → I l row → I (step_of card soil row i a ∷ l) (new_row card soil row i))
     (same : (l : History) (row row' : List ℕ) → card_ok card ≡ true → SameFront row row' → I l row → I l row') where
   quiet : (l : History) {rows next : List ℕ} → Quiet card p rows next → I l (row_in card p rows) → I l (row_in card p next)
   quiet l (inl e) v = rw e v
@@ -108,12 +109,12 @@ module _ (card : Card) (p : ℕ) (h : p < card.cells) (I : History → List ℕ 
   stepped l {rows} {next} {c} {answer} g v = rw g.rows_are (go answer (sym g.answer_is))
     where
       go : (b : Answer) → site_answer card c.soil rows c.entry ≡ b → I (noted card p rows c b l) (row_in card p (site_rows card c.soil rows c.entry))
-      go (Refused why) e = rw (rows_stay card c.soil rows c.entry why e) v
-      go (Accepted a) e =
+      go (Err why) e = rw (rows_stay card c.soil rows c.entry why e) v
+      go (Ok a) e =
           let ok = card_was card c.soil rows c.entry a e in
           let k = rows_long card c.soil rows c.entry a e in
           rw (sums_row card (site_rows card c.soil rows c.entry) p ok (rows_length card c.soil rows c.entry a e ∙ k))
-          (one card p I keep l rows c (Accepted a) e (rw (sums_row card rows p ok k) at v))
+          (one card p I keep l rows c (Ok a) e (rw (sums_row card rows p ok k) at v))
 
   pub along_any : {rows after : List ℕ} {acts : List Act} {outs : List Outcome} (l : History) (went : Went card rows acts outs after) → I l (row_in card p rows) → I (history_in p l went) (row_in card p after)
   along_any l done v = v
@@ -133,12 +134,12 @@ module _ (card : Card) (p : ℕ) (h : p < card.cells) where
       (λ l row row' ok f v. rw (front_queue card.delays (card_in card ok).delays f) v) [] went (rw e (start m))
 
   -- so from rows that `site::clear` has cleared
-  pub demand3_cleared : {rows cleared after : List ℕ} {acts : List Act} {outs : List Outcome} → ClearGives card rows 0 cleared
+  pub demand3_cleared : {rows cleared after : List ℕ} {acts : List Act} {outs : List Outcome} → ClearGives card rows (Ok tt) cleared
       → (went : Went card cleared acts outs after) → Kept (history_in p [] went) (queue_of card.delays (row_in card p after))
   demand3_cleared g went = demand3_any (min card.delays (row_width card - 2)) (ap (queue_of card.delays) (cleared_in card g p h) ∙ cleared_queue (row_width card) card.delays) went
 
   -- and in the order of acceptance the plot's first step has count 0, and each other is the next count of the same life or count 0 of a higher one
-  pub in_order_any : {rows cleared after : List ℕ} {acts : List Act} {outs : List Outcome} → ClearGives card rows 0 cleared
+  pub in_order_any : {rows cleared after : List ℕ} {acts : List Act} {outs : List Outcome} → ClearGives card rows (Ok tt) cleared
       → (went : Went card cleared acts outs after) → InSequence (history_in p [] went)
   in_order_any g went = (along_any card p h Ordered (goes_on card) (λ l row row' ok f v. (v.0, rw (f.life, f.next) v.1)) [] went (rw (cleared_in card g p h) (begins (row_width card)))).0
 
@@ -151,7 +152,7 @@ some_went card rows (enter c ∷ acts) =
 some_went card rows (collect cell ∷ acts) =
     let n = collecting_number card rows cell in
     let m = some_went card (list_by n (collected_rows card cell rows) rows) acts in
-    (got (collected_by n (row_of card cell rows)) ∷ m.0, m.1, collected (record { got_is = refl; rows_are = refl }) m.2)
+    (got (collecting_answer card rows cell) ∷ m.0, m.1, collected (sums_give card rows cell) m.2)
 some_went card rows (over to ∷ acts) =
     let n = grow_number card rows to in
     let m = some_went card (list_by n (list_by n (grown_rows card rows) to) rows) acts in

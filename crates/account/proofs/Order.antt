@@ -1,4 +1,5 @@
 -- Lives and counts: each accepted entry follows those before it, and what comes of their sequence alone. Assumes nothing.
+use Rattle.std.specs.Prelude.{Ok}
 use mathlib.Core.Path.{◌≡◌, refl, sym, ap, ◌∙◌}
 use mathlib.Core.Logic.{◌⊎◌, inl, inr}
 use mathlib.Core.List.{List, [], ◌∷◌}
@@ -9,7 +10,6 @@ use borrow.Author.Tests.{eq-eqb, ne_eqb}
 use lib.IntN.{ℤ}
 use lib.ListN.{length, replicate}
 use Rattle.cell.specs.declared.Amounts.{Amounts}
-use Rattle.cell.specs.declared.Answer.TheVariants.{Accepted}
 use Rattle.cell.specs.declared.Card.{Card}
 use Rattle.cell.specs.declared.Entry.{Entry}
 use Rattle.cell.specs.Ranges.{life_of, next_of}
@@ -37,7 +37,7 @@ Ordered h row = InSequence h × Leaves h (life_of row) (next_of row)
 pub begins : (w : ℕ) → Ordered [] (replicate w 0)
 begins w = (tt, (cleared_life w, cleared_next w))
 
-pub goes_on : (card : Card) (h : History) (soil : List ℤ) (row : List ℕ) (i : Entry) (a : Amounts) → answer_of card soil row i ≡ Accepted a
+pub goes_on : (card : Card) (h : History) (soil : List ℤ) (row : List ℕ) (i : Entry) (a : Amounts) → answer_of card soil row i ≡ Ok a
     → Ordered h row → Ordered (step_of card soil row i a ∷ h) (new_row card soil row i)
 goes_on card h soil row i a e v =
     ((v.0, follows h (step_of card soil row i a) v.1 (was_in_order card soil row i a e)), (life_after card soil row i a e, next_after card soil row i a e))

@@ -1,12 +1,13 @@
 -- [6] A site whose rows are kept in either form: steps, collections and moves one after the other, what they gave, and what a plot's sums hold. Definitions only.
-use Rattle.std.specs.Prelude.{cond, List, [], ◌∷◌, ℕ, ◌+◌, ◌*◌, eqb, length}
+use Rattle.std.specs.Prelude.{cond, List, [], ◌∷◌, ℕ, ◌+◌, ◌*◌, eqb, length, Result}
+use Rattle.cell.specs.Answers.{Answer}
 use Rattle.cell.specs.declared.Amounts.{Amounts}
-use Rattle.cell.specs.declared.Answer.{Answer}
 use Rattle.cell.specs.declared.Card.{Card}
 use Rattle.cell.specs.declared.Collected.{Collected}
 use Rattle.cell.specs.Ranges.{row_width}
 use Rattle.cell.specs.Sums.{front_width, runoff_at, drain_at, sum_of}
-use Rattle.cell.specs.Collect.{list_by}
+use Rattle.cell.specs.declared.Refusal.{Refusal}
+use Rattle.cell.specs.Collect.{sums_of, list_by}
 use Rattle.site.specs.Rows.{part_at}
 use Rattle.site.specs.Site.{SiteGives}
 use Rattle.site.specs.Forms.{SumsGive, GrowGives, ShrinkGives}
@@ -27,10 +28,10 @@ pub data Act : Type 0 where
   over : List ℕ → Act
   back : List ℕ → Act
 
--- what it gave: an answer, sums, or the number of a move
+-- what it gave: an answer, sums or why there are none, or the number of a move
 pub data Outcome : Type 0 where
   answered : Answer → Outcome
-  got : Collected → Outcome
+  got : Result Collected Refusal → Outcome
   moved : ℕ → Outcome
 
 -- what calls gave one after the other: any outcomes and rows that meet the contracts of `site::step`, `collect`, `grow` and `shrink`.
@@ -39,7 +40,7 @@ pub data Went (card : Card) : List ℕ → List Act → List Outcome → List �
   done : {rows : List ℕ} → Went card rows [] [] rows
   entered : {rows next after : List ℕ} {c : Call} {answer : Answer} {acts : List Act} {outs : List Outcome}
       → SiteGives card c.soil rows c.entry answer next → Went card next acts outs after → Went card rows (enter c ∷ acts) (answered answer ∷ outs) after
-  collected : {rows next after : List ℕ} {cell : ℕ} {sums : Collected} {acts : List Act} {outs : List Outcome}
+  collected : {rows next after : List ℕ} {cell : ℕ} {sums : Result Collected Refusal} {acts : List Act} {outs : List Outcome}
       → SumsGive card rows cell sums next → Went card next acts outs after → Went card rows (collect cell ∷ acts) (got sums ∷ outs) after
   went_over : {rows to new after : List ℕ} {number : ℕ} {acts : List Act} {outs : List Outcome}
       → GrowGives card rows to number new → Went card (list_by number new rows) acts outs after → Went card rows (over to ∷ acts) (moved number ∷ outs) after
@@ -83,7 +84,7 @@ held_in card p k rows = sum_of (place_of k) (row_in card p rows)
 abbrev pub collected_of : {card : Card} {rows after : List ℕ} {acts : List Act} {outs : List Outcome} → ℕ → Sum → Went card rows acts outs after → ℕ
 collected_of p k done = 0
 collected_of p k (entered g went) = collected_of p k went
-collected_of p k (collected {cell = cell} {sums = sums} g went) = cond (eqb cell p) (got_of k sums) 0 + collected_of p k went
+collected_of p k (collected {cell = cell} {sums = sums} g went) = cond (eqb cell p) (got_of k (sums_of sums)) 0 + collected_of p k went
 collected_of p k (went_over g went) = collected_of p k went
 collected_of p k (went_back g went) = collected_of p k went
 

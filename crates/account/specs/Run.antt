@@ -1,8 +1,7 @@
 -- A run: calls of the site's step one after the other, what they gave, and the history of a plot by the answers. Definitions only.
-use Rattle.std.specs.Prelude.{cond, List, [], ◌∷◌, ℕ, eqb, ℤ}
+use Rattle.std.specs.Prelude.{cond, List, [], ◌∷◌, ℕ, eqb, ℤ, Ok, Err}
+use Rattle.cell.specs.Answers.{Answer}
 use Rattle.cell.specs.declared.Amounts.{Amounts}
-use Rattle.cell.specs.declared.Answer.{Answer}
-use Rattle.cell.specs.declared.Answer.TheVariants.{Accepted, Refused}
 use Rattle.cell.specs.declared.Card.{Card}
 use Rattle.cell.specs.declared.Entry.{Entry}
 use Rattle.cell.specs.Ranges.{row_width, notice_of, cell_of}
@@ -32,8 +31,8 @@ step_of card soil row e a = record { life = (notice_of e).life; count = (notice_
 
 -- the history of plot p after one more call, which found these rows: a step more if it names p and is accepted, else as it was
 abbrev pub noted : Card → ℕ → List ℕ → Call → Answer → History → History
-noted card p rows c (Refused why) h = h
-noted card p rows c (Accepted a) h = cond (eqb (cell_of c.entry) p) (step_of card (part_at soil_width p c.soil) (row_of card p rows) c.entry a ∷ h) h
+noted card p rows c (Err why) h = h
+noted card p rows c (Ok a) h = cond (eqb (cell_of c.entry) p) (step_of card (part_at soil_width p c.soil) (row_of card p rows) c.entry a ∷ h) h
 
 -- the history of plot p after a run, h before it: made of the run's own answers, call after call
 abbrev pub history_of : {card : Card} {rows after : List ℕ} {cs : List Call} {answers : List Answer} → ℕ → History → Ran card rows cs answers after → History

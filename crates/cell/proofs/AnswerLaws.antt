@@ -1,14 +1,8 @@
 -- Laws of the answer and of the row that a call of the one-row step gives: what the crates above cite, so that they open no definition here. Assumes nothing.
-use Rattle.std.proofs.Math.Path.{◌≡◌, refl, sym, ap}
-use Rattle.std.proofs.Common.{◌∙◌, le-leb}
-use Rattle.std.proofs.Math.Bool.{true}
-use Rattle.std.specs.Prelude.{false, List, [], ◌∷◌, ◌++◌, ℕ, suc, ◌+◌, ◌≤◌, ℤ, nat_abs, ◌-ℤ◌, length, drop, replicate}
-use native.Mathlib.Omega.{arith}
-use Rattle.std.proofs.Math.IntN.{pos}
-use Rattle.std.proofs.Math.ListN.{get_or}
+use Rattle.std.proofs.Common.{◌≡◌, refl, sym, ap, ◌∙◌, le-leb, true, false, List, [], ◌∷◌, ◌++◌, ℕ, suc, ◌+◌, ◌≤◌, ℤ, nat_abs, ◌-ℤ◌, length, drop, replicate, Ok, Err, arith, pos, get_or}
 use Rattle.std.proofs.lemmas.List.{length-replicate}
+use Rattle.cell.specs.Answers.{Verdict}
 use Rattle.cell.specs.declared.Amounts.{Amounts}
-use Rattle.cell.specs.declared.Answer.TheVariants.{Accepted, Refused}
 use Rattle.cell.specs.declared.Card.{Card}
 use Rattle.cell.specs.declared.Depth.{Depth}
 use Rattle.cell.specs.declared.Entry.{Entry}
@@ -17,8 +11,6 @@ use Rattle.cell.specs.declared.Reading.{Reading}
 use Rattle.cell.specs.declared.Refusal.{Refusal}
 use Rattle.cell.specs.declared.Refusal.TheVariants.{BadCard, FullSums}
 use Rattle.cell.specs.declared.ranges.Soil.{Soil}
-use Rattle.cell.specs.declared.checks.Verdict.{Verdict}
-use Rattle.cell.specs.declared.checks.Verdict.TheVariants.{Fine, Bad}
 use Rattle.cell.specs.Ranges.{card_ok, soil_ok, soil_of, queue_of, row_width, row_ok, notice_ok, notice_of, life_of, next_of}
 use Rattle.cell.specs.Depth.{dry_depth}
 use Rattle.cell.specs.Refusals.{unless, fields_verdict, verdict_of}
@@ -146,21 +138,21 @@ takes_reading card soil r d h row hr hd =
 
 module _ (card : Card) (soil : List ℤ) (row : List ℕ) (e : Entry) where
   -- refused, the row is as it came
-  pub stays : (why : Refusal) → answer_of card soil row e ≡ Refused why → new_row card soil row e ≡ row
+  pub stays : (why : Refusal) → answer_of card soil row e ≡ Err why → new_row card soil row e ≡ row
   unfolding answer_of new_row judged
   stays why g = go (final_of card soil row e) g
     where
-      go : (v : Verdict) → judged v (λ d. Accepted (amounts_by card (soil_of soil) e d (queue_of card.delays row))) (λ b. Refused b) ≡ Refused why → judged v (λ d. row_after card (soil_of soil) e d row) (λ b. row) ≡ row
-      go (Fine d) f = let z : ◌≡◌ {A = ℕ} 0 1 = cc in absurd (omega arith)
-      go (Bad b) f = refl
+      go : (v : Verdict) → judged v (λ d. Ok (amounts_by card (soil_of soil) e d (queue_of card.delays row))) (λ b. Err b) ≡ Err why → judged v (λ d. row_after card (soil_of soil) e d row) (λ b. row) ≡ row
+      go (Ok d) f = cc
+      go (Err b) f = refl
 
   -- a bad card is refused with 1, whatever else is wrong
-  pub bad_card : card_ok card ≡ false → answer_of card soil row e ≡ Refused BadCard
+  pub bad_card : card_ok card ≡ false → answer_of card soil row e ≡ Err BadCard
   unfolding answer_of final_of judged
   bad_card f = rw (verdict_card card soil row e f)
 
   -- an entry that passes every check is accepted, and the row is the step's
-  pub lets_through : (d : Depth) → Passed card soil row e d → sums_take card (soil_of soil) e d row ≡ true → answer_of card soil row e ≡ Accepted (amounts_by card (soil_of soil) e d (queue_of card.delays row))
+  pub lets_through : (d : Depth) → Passed card soil row e d → sums_take card (soil_of soil) e d row ≡ true → answer_of card soil row e ≡ Ok (amounts_by card (soil_of soil) e d (queue_of card.delays row))
   unfolding answer_of judged
   lets_through d p k = rw (final_fine card soil row e d p k)
 
@@ -168,7 +160,7 @@ module _ (card : Card) (soil : List ℤ) (row : List ℕ) (e : Entry) where
   unfolding new_row judged
   row_through d p k = rw (final_fine card soil row e d p k)
 
-  taken_at : (a : Amounts) (d : Depth) → final_of card soil row e ≡ Fine d → amounts_by card (soil_of soil) e d (queue_of card.delays row) ≡ a → Taken card soil row e a
+  taken_at : (a : Amounts) (d : Depth) → final_of card soil row e ≡ Ok d → amounts_by card (soil_of soil) e d (queue_of card.delays row) ≡ a → Taken card soil row e a
   unfolding new_row step_delay step_draws judged
   taken_at a d f ea =
       let fp = final_passed card soil row e d f in
@@ -188,34 +180,32 @@ module _ (card : Card) (soil : List ℤ) (row : List ℕ) (e : Entry) where
         moved = rw (f, ← ea) (entry_moves card (soil_of soil) e d h q (queue_length card (soil_of soil) (reading_of e) d h row p.row_ok_lem));
       }
 
-  pub step_taken : (a : Amounts) → answer_of card soil row e ≡ Accepted a → Taken card soil row e a
+  pub step_taken : (a : Amounts) → answer_of card soil row e ≡ Ok a → Taken card soil row e a
   unfolding answer_of judged
   step_taken a g = go (final_of card soil row e) refl
     where
       go : (v : Verdict) → final_of card soil row e ≡ v → Taken card soil row e a
-      go (Fine d) f =
-          let s : Accepted (amounts_by card (soil_of soil) e d (queue_of card.delays row)) ≡ Accepted a = rw f at g in
+      go (Ok d) f =
+          let s : Ok (amounts_by card (soil_of soil) e d (queue_of card.delays row)) ≡ Ok a = rw f at g in
           taken_at a d f (cc)
-      go (Bad b) f =
-          let s : Refused b ≡ Accepted a = rw f at g in
-          let z : ◌≡◌ {A = ℕ} 0 1 = cc in
-          absurd (omega arith)
+      go (Err b) f =
+          let s : Err b ≡ Ok a = rw f at g in
+          cc
 
   -- [6] 15 does not come while each sum has room for the most that a step runs off or drains
-  pub room_enough : sum_of runoff_at row + 2000000 ≤ sum_limit → sum_of drain_at row + 20000000000 ≤ sum_limit → ¬ (answer_of card soil row e ≡ Refused FullSums)
+  pub room_enough : sum_of runoff_at row + 2000000 ≤ sum_limit → sum_of drain_at row + 20000000000 ≤ sum_limit → ¬ (answer_of card soil row e ≡ Err FullSums)
   unfolding answer_of final_of judged unless
   room_enough hr hd g = go (verdict_of card soil row e) refl
     where
       go : (v : Verdict) → verdict_of card soil row e ≡ v → ⊥
-      go (Bad why) f =
-          let s : Refused why ≡ Refused FullSums = rw f at g in
+      go (Err why) f =
+          let s : Err why ≡ Err FullSums = rw f at g in
           let k : why ≡ FullSums = cc in
           verdict_other card soil row e (rw k at f)
-      go (Fine d) f =
+      go (Ok d) f =
           let p = passed card soil row e d f in
-          let s : Accepted (amounts_by card (soil_of soil) e d (queue_of card.delays row)) ≡ Refused FullSums = rw (f, takes_most d p) at g in
-          let z : ◌≡◌ {A = ℕ} 0 1 = cc in
-          omega arith
+          let s : Ok (amounts_by card (soil_of soil) e d (queue_of card.delays row)) ≡ Err FullSums = rw (f, takes_most d p) at g in
+          cc
         where
           takes_most : (x : Depth) → Passed card soil row e x → sums_take card (soil_of soil) e x row ≡ true
           takes_most x p =
@@ -223,7 +213,7 @@ module _ (card : Card) (soil : List ℤ) (row : List ℕ) (e : Entry) where
               sym (take_as card (soil_of soil) (get_or soil 0 (pos 0)) e x p.fields_fine c row p.row_ok_lem) ∙ takes_reading card (soil_of soil) (reading_of e) x c row hr hd
 
   -- of an accepted call
-  module _ (a : Amounts) (g : answer_of card soil row e ≡ Accepted a) where
+  module _ (a : Amounts) (g : answer_of card soil row e ≡ Ok a) where
     t : Taken card soil row e a
     t = step_taken a g
 
@@ -306,7 +296,7 @@ module _ (card : Card) (soil : List ℤ) (row : List ℕ) (e : Entry) where
         })
 
 -- [7] the rain of an accepted reading is at most 600,000
-pub rain_taken : (card : Card) (soil : List ℤ) (row : List ℕ) (r : Reading) (a : Amounts) → answer_of card soil row (Entry.Reading r) ≡ Accepted a → r.rain ≤ 600000
+pub rain_taken : (card : Card) (soil : List ℤ) (row : List ℕ) (r : Reading) (a : Amounts) → answer_of card soil row (Entry.Reading r) ≡ Ok a → r.rain ≤ 600000
 rain_taken card soil row r a g =
     let t = step_taken card soil row (Entry.Reading r) a g in
     rain_passed (get_or soil 0 (pos 0)) r t.depth t.checks.fields_fine
@@ -323,7 +313,7 @@ module _ (card : Card) (soil : List ℤ) (row : List ℕ) (n : Notice)
   unfolding sums_take
   void_takes = refl
 
-  pub void_through : answer_of card soil row (Entry.Void n) ≡ Accepted (shift_amounts (queue_of card.delays row))
+  pub void_through : answer_of card soil row (Entry.Void n) ≡ Ok (shift_amounts (queue_of card.delays row))
   unfolding amounts_by
   void_through = lets_through card soil row (Entry.Void n) dry_depth void_checks_lem void_takes
 
@@ -344,7 +334,7 @@ pub record OnlyRelease (a : Amounts) : Type 0 where
   pub stored : a.stored.0 ≡ 0
   pub recharge : a.recharge.0 ≡ pos a.release.0
 
-pub void_amounts : (card : Card) (soil : List ℤ) (row : List ℕ) (n : Notice) (a : Amounts) → answer_of card soil row (Entry.Void n) ≡ Accepted a → OnlyRelease a
+pub void_amounts : (card : Card) (soil : List ℤ) (row : List ℕ) (n : Notice) (a : Amounts) → answer_of card soil row (Entry.Void n) ≡ Ok a → OnlyRelease a
 unfolding amounts_by shift_amounts
 void_amounts card soil row n a g =
     rw (step_taken card soil row (Entry.Void n) a g).amounts_by_lem (record { inflow = refl; runoff = refl; etvad = refl; etstor = refl; etsat = refl; drain = refl; stored = refl; recharge = refl })
@@ -358,5 +348,5 @@ void_draws card soil row n i = go (final_of card soil row (Entry.Void n))
     q = queue_of card.delays row
 
     go : (v : Verdict) → slot (judged v (λ d. replicate (length q) 0) (λ why. [])) i ≡ 0
-    go (Fine d) = slot_cleared (length q) i
-    go (Bad why) = slot_empty i
+    go (Ok d) = slot_cleared (length q) i
+    go (Err why) = slot_empty i

@@ -1,7 +1,7 @@
 -- What is known where every check has passed, and what the order of lives and counts lets through. Assumes nothing.
 use Rattle.std.proofs.Math.Path.{◌≡◌, refl, sym}
 use Rattle.std.proofs.Common.{ap, ◌∙◌, inl, inr, arith, lt-ltb, le-ltb, ltb-false, eq-eqb, ne_eqb, eqb-true}
-use Rattle.std.specs.Prelude.{Bool, true, false, cond, not, ◌&&◌, ◌||◌, ◌⊎◌, List, [], ◌∷◌, ◌++◌, ℕ, ◌≤◌, ◌<◌, ltb, eqb, ℤ, pos, nat_abs, get_or}
+use Rattle.std.specs.Prelude.{Bool, true, false, cond, not, ◌&&◌, ◌||◌, ◌⊎◌, List, [], ◌∷◌, ◌++◌, ℕ, ◌≤◌, ◌<◌, ltb, eqb, ℤ, pos, nat_abs, get_or, Ok, Err}
 use Rattle.std.proofs.Math.Bool.{and-false}
 use Rattle.std.proofs.Math.Decide.{ℕ_discrete}
 use Rattle.std.proofs.lemmas.Bool.{not-true, not-false}
@@ -10,8 +10,7 @@ use Rattle.head.specs.declared.Head.TheVariants.{Level, Dry, Inactive, Unusable}
 use Rattle.head.specs.Class.{class_of}
 use Rattle.head.specs.Level.{level_um}
 use Rattle.head.specs.LevelLaws.{level_small}
-use Rattle.cell.specs.declared.Answer.{Answer}
-use Rattle.cell.specs.declared.Answer.TheVariants.{Accepted, Refused}
+use Rattle.cell.specs.Answers.{Answer, Verdict}
 use Rattle.cell.specs.declared.Card.{Card}
 use Rattle.cell.specs.declared.Depth.{Depth}
 use Rattle.cell.specs.declared.Entry.{Entry}
@@ -19,8 +18,6 @@ use Rattle.cell.specs.declared.Notice.{Notice}
 use Rattle.cell.specs.declared.Reading.{Reading}
 use Rattle.cell.specs.declared.Refusal.{Refusal}
 use Rattle.cell.specs.declared.Refusal.TheVariants.{BadCard, BadLengths, BadCell, BadSoil, BadRow, Old, Gap, BadReading, JammedBucket, UnusableHead, InactiveHead, FullSums}
-use Rattle.cell.specs.declared.checks.Verdict.{Verdict}
-use Rattle.cell.specs.declared.checks.Verdict.TheVariants.{Fine, Bad}
 use Rattle.cell.specs.Parts.{Checked}
 use Rattle.cell.specs.Depth.{distance, depth_of}
 use Rattle.cell.specs.Ranges.{card_ok, soil_ok, soil_of, row_ok, notice_ok, fields_ok, notice_of, life_of, next_of, queue_of}
@@ -38,14 +35,14 @@ pub record Passed (card : Card) (soil : List ℤ) (row : List ℕ) (e : Entry) (
   pub row_ok_lem : row_ok card row ≡ true
   pub not_old : is_old (life_of row) (next_of row) (notice_of e) ≡ false
   pub not_gap : is_gap (life_of row) (next_of row) (notice_of e) ≡ false
-  pub fields_fine : fields_verdict (get_or soil 0 (pos 0)) e ≡ Fine d
+  pub fields_fine : fields_verdict (get_or soil 0 (pos 0)) e ≡ Ok d
 
-unless_fine : (b : Bool) (why : Refusal) (v : Verdict) (d : Depth) → unless b why v ≡ Fine d → (b ≡ true) × (v ≡ Fine d)
+unless_fine : (b : Bool) (why : Refusal) (v : Verdict) (d : Depth) → unless b why v ≡ Ok d → (b ≡ true) × (v ≡ Ok d)
 unfolding unless
 unless_fine true why v d e = (refl, e)
-unless_fine false why v d e = let z : ◌≡◌ {A = ℕ} 0 1 = cc in absurd (omega arith)
+unless_fine false why v d e = cc
 
-pub passed : (card : Card) (soil : List ℤ) (row : List ℕ) (e : Entry) (d : Depth) → verdict_of card soil row e ≡ Fine d → Passed card soil row e d
+pub passed : (card : Card) (soil : List ℤ) (row : List ℕ) (e : Entry) (d : Depth) → verdict_of card soil row e ≡ Ok d → Passed card soil row e d
 unfolding verdict_of
 passed card soil row e d f =
     let p1 = unless_fine _ _ _ d f in
@@ -56,79 +53,78 @@ passed card soil row e d f =
     record { card_ok_lem = p1.0; soil_ok_lem = p2.0; row_ok_lem = p3.0; not_old = not-true _ p4.0; not_gap = not-true _ p5.0; fields_fine = p5.1 }
 
 -- and where all are passed, the verdict is that depth
-pub verdict_fine : (card : Card) (soil : List ℤ) (row : List ℕ) (e : Entry) (d : Depth) → Passed card soil row e d → verdict_of card soil row e ≡ Fine d
+pub verdict_fine : (card : Card) (soil : List ℤ) (row : List ℕ) (e : Entry) (d : Depth) → Passed card soil row e d → verdict_of card soil row e ≡ Ok d
 unfolding verdict_of unless
 verdict_fine card soil row e d p = rw (p.card_ok_lem, p.soil_ok_lem, p.row_ok_lem, p.not_old, p.not_gap) p.fields_fine
 
 -- [6] all checks: those up to 10, and then 15
 module _ (card : Card) (soil : List ℤ) (row : List ℕ) (e : Entry) (d : Depth) where
-  pub final_passed : final_of card soil row e ≡ Fine d → (verdict_of card soil row e ≡ Fine d) × (sums_take card (soil_of soil) e d row ≡ true)
+  pub final_passed : final_of card soil row e ≡ Ok d → (verdict_of card soil row e ≡ Ok d) × (sums_take card (soil_of soil) e d row ≡ true)
   unfolding final_of judged
   final_passed f = go (verdict_of card soil row e) refl
     where
-      go : (v : Verdict) → verdict_of card soil row e ≡ v → (verdict_of card soil row e ≡ Fine d) × (sums_take card (soil_of soil) e d row ≡ true)
-      go (Bad why) g =
-          let s : Bad why ≡ Fine d = rw g at f in
-          let z : ◌≡◌ {A = ℕ} 0 1 = cc in
-          absurd (omega arith)
-      go (Fine b) g =
-          let s : unless (sums_take card (soil_of soil) e b row) FullSums (Fine b) ≡ Fine d = rw g at f in
+      go : (v : Verdict) → verdict_of card soil row e ≡ v → (verdict_of card soil row e ≡ Ok d) × (sums_take card (soil_of soil) e d row ≡ true)
+      go (Err why) g =
+          let s : Err why ≡ Ok d = rw g at f in
+          cc
+      go (Ok b) g =
+          let s : unless (sums_take card (soil_of soil) e b row) FullSums (Ok b) ≡ Ok d = rw g at f in
           let u = unless_fine _ _ _ d s in
           let k : b ≡ d = cc in
           (rw k at g, rw k at u.0)
 
-  pub final_fine : Passed card soil row e d → sums_take card (soil_of soil) e d row ≡ true → final_of card soil row e ≡ Fine d
+  pub final_fine : Passed card soil row e d → sums_take card (soil_of soil) e d row ≡ true → final_of card soil row e ≡ Ok d
   unfolding final_of judged unless
   final_fine p taken = rw (verdict_fine card soil row e d p, taken)
 
 -- none of the checks up to 10 refuses with 15
-unless_other : (b : Bool) (why : Refusal) (v : Verdict) → ¬ (why ≡ FullSums) → ¬ (v ≡ Bad FullSums) → ¬ (unless b why v ≡ Bad FullSums)
+unless_other : (b : Bool) (why : Refusal) (v : Verdict) → ¬ (why ≡ FullSums) → ¬ (v ≡ Err FullSums) → ¬ (unless b why v ≡ Err FullSums)
 unfolding unless
 unless_other true why v n m e = m e
 unless_other false why v n m e = n (cc)
 
-sounded_other : (top : ℤ) (h : Head) → ¬ (sounded top h ≡ Bad FullSums)
+sounded_other : (top : ℤ) (h : Head) → ¬ (sounded top h ≡ Err FullSums)
 unfolding sounded
-sounded_other top Unusable e = let z : ◌≡◌ {A = ℕ} 0 1 = cc in omega arith
-sounded_other top Inactive e = let z : ◌≡◌ {A = ℕ} 0 1 = cc in omega arith
-sounded_other top Dry e = let z : ◌≡◌ {A = ℕ} 0 1 = cc in omega arith
-sounded_other top (Level x) e = let z : ◌≡◌ {A = ℕ} 0 1 = cc in omega arith
+sounded_other top Unusable e = cc
+sounded_other top Inactive e = cc
+sounded_other top Dry e = cc
+sounded_other top (Level x) e = cc
 
-fields_other : (top : ℤ) (e : Entry) → ¬ (fields_verdict top e ≡ Bad FullSums)
+fields_other : (top : ℤ) (e : Entry) → ¬ (fields_verdict top e ≡ Err FullSums)
 unfolding fields_verdict
 fields_other top (Entry.Reading r) =
-    unless_other (fields_ok r) BadReading _ (λ f. let z : ◌≡◌ {A = ℕ} 0 1 = cc in omega arith)
-    (unless_other (not (is_jammed r)) JammedBucket _ (λ f. let z : ◌≡◌ {A = ℕ} 0 1 = cc in omega arith)
+    unless_other (fields_ok r) BadReading _ (λ f. cc)
+    (unless_other (not (is_jammed r)) JammedBucket _ (λ f. cc)
     (sounded_other top (class_of r.head)))
 fields_other top (Entry.Void n) =
-    unless_other (notice_ok n) BadReading _ (λ f. let z : ◌≡◌ {A = ℕ} 0 1 = cc in omega arith) (λ f. let z : ◌≡◌ {A = ℕ} 0 1 = cc in omega arith)
+    unless_other (notice_ok n) BadReading _ (λ f. cc) (λ f. cc)
 
-pub verdict_other : (card : Card) (soil : List ℤ) (row : List ℕ) (e : Entry) → ¬ (verdict_of card soil row e ≡ Bad FullSums)
+pub verdict_other : (card : Card) (soil : List ℤ) (row : List ℕ) (e : Entry) → ¬ (verdict_of card soil row e ≡ Err FullSums)
 unfolding verdict_of
 verdict_other card soil row e =
-    unless_other _ BadCard _ (λ f. let z : ◌≡◌ {A = ℕ} 0 1 = cc in omega arith)
-    (unless_other _ BadSoil _ (λ f. let z : ◌≡◌ {A = ℕ} 0 1 = cc in omega arith)
-    (unless_other _ BadRow _ (λ f. let z : ◌≡◌ {A = ℕ} 0 1 = cc in omega arith)
-    (unless_other _ Old _ (λ f. let z : ◌≡◌ {A = ℕ} 0 1 = cc in omega arith)
-    (unless_other _ Gap _ (λ f. let z : ◌≡◌ {A = ℕ} 0 1 = cc in omega arith)
+    unless_other _ BadCard _ (λ f. cc)
+    (unless_other _ BadSoil _ (λ f. cc)
+    (unless_other _ BadRow _ (λ f. cc)
+    (unless_other _ Old _ (λ f. cc)
+    (unless_other _ Gap _ (λ f. cc)
     (fields_other (get_or soil 0 (pos 0)) e)))))
 
 -- check 1 comes first
-pub verdict_card : (card : Card) (soil : List ℤ) (row : List ℕ) (e : Entry) → card_ok card ≡ false → verdict_of card soil row e ≡ Bad BadCard
+pub verdict_card : (card : Card) (soil : List ℤ) (row : List ℕ) (e : Entry) → card_ok card ≡ false → verdict_of card soil row e ≡ Err BadCard
 unfolding verdict_of unless
 verdict_card card soil row e f = rw f
 
 -- a head that passes lies within 20,000,000,000 of a top in range
-sounded_le : (top : ℤ) (h : Head) (d : Depth) → nat_abs top ≤ 10000000000 → sounded top h ≡ Fine d → distance d ≤ 20000000000
+sounded_le : (top : ℤ) (h : Head) (d : Depth) → nat_abs top ≤ 10000000000 → sounded top h ≡ Ok d → distance d ≤ 20000000000
 unfolding sounded distance
 sounded_le top (Level x) d t e = let f : depth_of top (level_um x) ≡ d = cc in rw (← f) (depth_le top (level_um x) t (level_small x))
 sounded_le top Dry d t e = let f : Depth.Under 20000000000 ≡ d = cc in rw (← f) (omega arith)
-sounded_le top Inactive d t e = let z : ◌≡◌ {A = ℕ} 0 1 = cc in absurd (omega arith)
-sounded_le top Unusable d t e = let z : ◌≡◌ {A = ℕ} 0 1 = cc in absurd (omega arith)
+sounded_le top Inactive d t e = cc
+sounded_le top Unusable d t e = cc
 
 -- where 8, 17 [7], 9 and 10 are passed, so is each
-module _ (top : ℤ) (r : Reading) (d : Depth) (f : fields_verdict top (Entry.Reading r) ≡ Fine d) where
-  fields_were : (fields_ok r ≡ true) × (not (is_jammed r) ≡ true) × (sounded top (class_of r.head) ≡ Fine d)
+module _ (top : ℤ) (r : Reading) (d : Depth) (f : fields_verdict top (Entry.Reading r) ≡ Ok d) where
+  fields_were : (fields_ok r ≡ true) × (not (is_jammed r) ≡ true) × (sounded top (class_of r.head) ≡ Ok d)
   unfolding fields_verdict
   fields_were =
       let p = unless_fine (fields_ok r) BadReading _ d f in
@@ -169,12 +165,12 @@ abbrev pub InOrder : ℕ → ℕ → Notice → Type 0
 InOrder life next n = ((n.life ≡ life) × (n.count ≡ next)) ⊎ ((life < n.life) × (n.count ≡ 0))
 
 or_off : (a b : Bool) → (a || b) ≡ false → (a ≡ false) × (b ≡ false)
-or_off true b e = let z : ◌≡◌ {A = ℕ} 0 1 = cc in absurd (omega arith)
+or_off true b e = cc
 or_off false b e = (refl, e)
 
 and_off : (a b : Bool) → a ≡ true → (a && b) ≡ false → b ≡ false
 and_off true b p e = e
-and_off false b p e = let z : ◌≡◌ {A = ℕ} 0 1 = cc in absurd (omega arith)
+and_off false b p e = cc
 
 -- neither old nor a gap: in order, and the other way round
 pub order_is : (life next : ℕ) (n : Notice) → is_old life next n ≡ false → is_gap life next n ≡ false → InOrder life next n
@@ -208,8 +204,8 @@ order_gap life next n (inr e) = simp (ne_eqb n.life life (λ i. omega arith), eq
 
 -- ---- the number of a verdict is that of the first check that fails
 abbrev verdict_number : Verdict → ℕ
-verdict_number (Fine d) = 0
-verdict_number (Bad why) = refusal_number why
+verdict_number (Ok d) = 0
+verdict_number (Err why) = refusal_number why
 
 unless_number : (b : Bool) (why : Refusal) (v : Verdict) → verdict_number (unless b why v) ≡ cond b (verdict_number v) (refusal_number why)
 unfolding unless
@@ -254,12 +250,12 @@ first_stays (check ∷ more) others h = go check.1 refl (first_stays more others
     go false p ih = rw p
 
 -- where 9 and 10 are passed, the depth that 15 is asked at is the verdict's
-sounded_at : (top : ℤ) (h : Head) (d : Depth) → sounded top h ≡ Fine d → (is_unusable h ≡ false) × (is_inactive h ≡ false) × (depth_at top h ≡ d)
+sounded_at : (top : ℤ) (h : Head) (d : Depth) → sounded top h ≡ Ok d → (is_unusable h ≡ false) × (is_inactive h ≡ false) × (depth_at top h ≡ d)
 unfolding sounded depth_at
 sounded_at top (Level x) d e = (refl, refl, cc)
 sounded_at top Dry d e = (refl, refl, cc)
-sounded_at top Inactive d e = let z : ◌≡◌ {A = ℕ} 0 1 = cc in absurd (omega arith)
-sounded_at top Unusable d e = let z : ◌≡◌ {A = ℕ} 0 1 = cc in absurd (omega arith)
+sounded_at top Inactive d e = cc
+sounded_at top Unusable d e = cc
 
 module _ (card : Card) (soil : List ℤ) (row : List ℕ) where
   -- of a void 15 is not asked
@@ -267,7 +263,7 @@ module _ (card : Card) (soil : List ℤ) (row : List ℕ) where
   unfolding sums_take
   void_takes n d = refl
 
-  after_fields : (e : Entry) (d : Depth) → fields_verdict (get_or soil 0 (pos 0)) e ≡ Fine d
+  after_fields : (e : Entry) (d : Depth) → fields_verdict (get_or soil 0 (pos 0)) e ≡ Ok d
       → first_failing (field_checks e ++ sum_checks card soil row e) ≡ cond (sums_take card (soil_of soil) e d row) 0 15
   unfolding fields_verdict
   after_fields (Entry.Reading r) d f =
@@ -295,11 +291,11 @@ module _ (card : Card) (soil : List ℤ) (row : List ℕ) (e : Entry) where
   final_number = go (verdict_of card soil row e) refl
     where
       go : (v : Verdict) → verdict_of card soil row e ≡ v
-          → verdict_number (judged v (λ d. unless (sums_take card (soil_of soil) e d row) FullSums (Fine d)) (λ why. Bad why)) ≡ first_failing row_checks
-      go (Fine d) f =
+          → verdict_number (judged v (λ d. unless (sums_take card (soil_of soil) e d row) FullSums (Ok d)) (λ why. Err why)) ≡ first_failing row_checks
+      go (Ok d) f =
           let p = passed card soil row e d f in
-          rw (p.card_ok_lem, p.soil_ok_lem, p.row_ok_lem, p.not_old, p.not_gap) (unless_number (sums_take card (soil_of soil) e d row) FullSums (Fine d) ∙ sym (after_fields card soil row e d p.fields_fine))
-      go (Bad why) f =
+          rw (p.card_ok_lem, p.soil_ok_lem, p.row_ok_lem, p.not_old, p.not_gap) (unless_number (sums_take card (soil_of soil) e d row) FullSums (Ok d) ∙ sym (after_fields card soil row e d p.fields_fine))
+      go (Err why) f =
           let n : refusal_number why ≡ first_failing first_checks = sym (ap verdict_number f) ∙ verdict_number_lem in
           n ∙ sym (first_stays first_checks (sum_checks card soil row e) (omega (arith, n, (refusal_in why).0)))
 
@@ -307,10 +303,10 @@ module _ (card : Card) (soil : List ℤ) (row : List ℕ) (e : Entry) where
   unfolding answer_of judged
   row_number = go (final_of card soil row e) ∙ final_number
     where
-      go : (v : Verdict) → number_of (judged v (λ d. Accepted (amounts_by card (soil_of soil) e d (queue_of card.delays row))) (λ why. Refused why)) ≡ verdict_number v
-      go (Fine d) = refl
-      go (Bad why) = refl
+      go : (v : Verdict) → number_of (judged v (λ d. Ok (amounts_by card (soil_of soil) e d (queue_of card.delays row))) (λ why. Err why)) ≡ verdict_number v
+      go (Ok d) = refl
+      go (Err why) = refl
 
 pub number_most : (answer : Answer) → number_of answer ≤ 17
-number_most (Accepted a) = omega arith
-number_most (Refused why) = (refusal_in why).1
+number_most (Ok a) = omega arith
+number_most (Err why) = (refusal_in why).1

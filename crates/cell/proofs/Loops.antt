@@ -1,18 +1,13 @@
 -- One turn, and the end, of each loop over a list: what the loops' invariants go by. Assumes nothing.
-use mathlib.Core.Path.{◌≡◌, refl, ap, sym, ◌∙◌}
-use mathlib.Core.List.{List, [], ◌∷◌, ◌++◌, append_assoc}
-use mathlib.Core.Bool.{Bool, ◌&&◌, and_assoc, and-true}
-use Prim.Native.Nat.{ℕ, zero, suc, ◌+◌, ◌-◌, ◌*◌, ◌<◌, ◌≤◌, min}
-use native.Mathlib.Numerals.{add-one}
-use native.Mathlib.Omega.{arith}
-use borrow.Author.Tests.{le-leb, lt-leb, ne_eqb}
-use lib.ListN.{length, get_or, take, drop, set, drop_of_length-le, length-drop}
-use lib.Seq.{take_all, drop-cons, drop-set-lt, take-suc-set, set_split}
-use lib.Dec.{leb, ltb, eqb}
+use Rattle.std.proofs.Common.{◌≡◌, refl, ap, sym, ◌∙◌, List, [], ◌∷◌, ◌++◌, append_assoc, Bool, ◌&&◌, ℕ, zero, suc, ◌+◌, ◌-◌, ◌*◌, ◌<◌, ◌≤◌, min, add-one, arith, le-leb, ne_eqb, length, get_or, take, drop, set, take-append-drop, drop_of_length-le, length-drop, take_all, drop-cons, drop-set-lt, take-suc-set, leb, ltb, eqb, ◌⊎◌, sum, inl, inr, zero-add}
+use Rattle.std.proofs.Math.Bool.{and_assoc, and-true}
+use borrow.Author.Tests.{lt-leb}
+use Rattle.std.proofs.Math.Seq.{set-append_seam, paste}
+use Rattle.std.proofs.lemmas.List.Sums.{sum_by-cons}
 use Rattle.cell.specs.Ranges.{none_of, rising_from, slots_ok}
 use Rattle.cell.specs.Parts.{held_under}
 use Rattle.cell.specs.Rules.{reach_of}
-use Rattle.cell.specs.Queue.{total, shifted, taken, spared, joined}
+use Rattle.cell.specs.Queue.{slot, total, shifted, taken, spared, joined}
 
 -- the rest of a list from a place is all of it from there
 pub rest_is : {A : Type 0} (at : ℕ) (l : List A) → take (length l - at) (drop at l) ≡ drop at l
@@ -60,13 +55,10 @@ slots_split (suc m) (s ∷ ss) =
     rw (e, l, slots_split m ss) (sym (and_assoc (leb s (2000000 * suc m)) (held_under (2000000 * m) (take m ss)) (none_of (drop m ss))))
 
 -- ---- the sum of the slots
-pub total_at : (i : ℕ) (q : List ℕ) → i < length q → total (drop i q) ≡ get_or q i 0 + total (drop (i + 1) q)
+pub total_sum : (q : List ℕ) → sum q ≡ total q
 unfolding total
-total_at i q l = rw (drop-cons q i 0 l, add-one)
-
-pub total_end : (n : ℕ) (q : List ℕ) → length q ≤ n → total (drop n q) ≡ 0
-unfolding total
-total_end n q h = rw (drop_of_length-le q h)
+total_sum [] = refl
+total_sum (s ∷ q) = sum_by-cons (λ x. x) s q ∙ ap (λ (n : ℕ). s + n) (total_sum q)
 
 -- ---- the delay: found at k, or as before
 pub reach_hit : (ds : List ℕ) (k n : ℕ) → get_or ds k 0 ≤ n → reach_of ds (k + 1) n ≡ k + 1
@@ -83,25 +75,22 @@ put_step F q i v h =
     let k : i < i + 1 = omega arith in
     rw (drop-set-lt (i + 1) q i v k, add-one, take-suc-set q i v, append_assoc)
 
--- the shift: one turn, and the last store
-shifted_at : (i : ℕ) (q : List ℕ) → i + 1 < length q → shifted (drop i q) ≡ get_or q (i + 1) 0 ∷ shifted (drop (i + 1) q)
-unfolding shifted
-shifted_at i q l =
-    let l0 : i < length q = omega arith in
-    let l1 : suc i < length q = omega arith in
-    rw (add-one, drop-cons q i 0 l0, drop-cons q (suc i) 0 l1)
+-- the shift: all but the first, one place down, and a 0 in the last
+pub shift_none : (q : List ℕ) → length q ≡ 0 → (0 ≡ slot q 1) × (q ≡ shifted q)
+unfolding slot shifted
+shift_none [] e = (refl, refl)
+shift_none (s ∷ q) e = absurd (omega arith)
 
-pub shift_turn : (i : ℕ) (q goal : List ℕ) → i + 1 < length q → take i q ++ shifted (drop i q) ≡ goal
-    → take (i + 1) (set q i (get_or q (i + 1) 0)) ++ shifted (drop (i + 1) (set q i (get_or q (i + 1) 0))) ≡ goal
-shift_turn i q goal h e =
-    put_step shifted q i (get_or q (i + 1) 0) (omega arith) ∙ ap (λ (t : List ℕ). take i q ++ t) (sym (shifted_at i q h)) ∙ e
-
-pub shift_end : (i : ℕ) (q : List ℕ) → i + 1 ≡ length q → set q i 0 ≡ take i q ++ shifted (drop i q)
+pub shift_is : (q : List ℕ) → 0 < length q → set (paste q 0 (drop 1 q) (length q - 1)) (length q - 1) 0 ≡ shifted q
 unfolding shifted
-shift_end i q l =
-    let k : i < length q = omega arith in
-    let n : length q ≤ suc i = omega arith in
-    rw (drop-cons q i 0 k, set_split q i 0 k, drop_of_length-le q n)
+shift_is [] h = absurd (omega arith)
+shift_is (s ∷ q) h =
+    let n : length q ≡ length (s ∷ q) - 1 = omega arith in
+    let y : ℕ = get_or (s ∷ q) (length q) 0 in
+    let t : drop (length q) (s ∷ q) ≡ y ∷ [] =
+    drop-cons (s ∷ q) (length q) 0 (omega arith) ∙ ap (λ (l : List ℕ). y ∷ l) (drop_of_length-le q (omega arith)) in
+    let e : set (paste (s ∷ q) 0 q (length q)) (length q) 0 ≡ q ++ (0 ∷ []) = rw (zero-add, take_all (length q) q (omega arith), t) (set-append_seam q y [] 0) in
+    rw (← n) e
 
 -- the draw: one turn of what is left in the slots, and of what was drawn
 spared_at : (w i : ℕ) (q : List ℕ) → i < length q → spared w (drop i q) ≡ (get_or q i 0 - w) ∷ spared (w - get_or q i 0) (drop (i + 1) q)
@@ -124,36 +113,43 @@ taken_turn asked w i v w' n q h b ew e =
     rw (drop-set-lt (i + 1) q i v k, ew) (omega (arith, taken_at w i q h))
 
 -- nothing asked draws nothing
-pub spared_none : (q : List ℕ) → spared 0 q ≡ q
+spared_none : (q : List ℕ) → spared 0 q ≡ q
 unfolding spared
 spared_none [] = refl
 spared_none (s ∷ q) = let e : 0 - s ≡ 0 = omega arith in rw (e, spared_none q) (ap (λ (n : ℕ). n ∷ q) (omega arith))
 
-pub taken_none : (q : List ℕ) → total (taken 0 q) ≡ 0
+taken_none : (q : List ℕ) → total (taken 0 q) ≡ 0
 unfolding taken total
 taken_none [] = refl
 taken_none (s ∷ q) = let e : 0 - s ≡ 0 = omega arith in rw e (omega (arith, taken_none q))
 
 -- and nothing is drawn past the end
-pub spared_end : (w n : ℕ) (q : List ℕ) → length q ≤ n → spared w (drop n q) ≡ drop n q
+spared_end : (w n : ℕ) (q : List ℕ) → length q ≤ n → spared w (drop n q) ≡ drop n q
 unfolding spared
 spared_end w n q h = rw (drop_of_length-le q h)
 
-pub taken_end : (w n : ℕ) (q : List ℕ) → length q ≤ n → total (taken w (drop n q)) ≡ 0
+taken_end : (w n : ℕ) (q : List ℕ) → length q ≤ n → total (taken w (drop n q)) ≡ 0
 unfolding taken total
 taken_end w n q h = rw (drop_of_length-le q h)
 
+pub draw_end : (asked w i n : ℕ) (q goal : List ℕ) → (length q ≤ i) ⊎ (w ≡ 0) → take i q ++ spared w (drop i q) ≡ goal → asked - w + total (taken w (drop i q)) ≡ n → (asked - w ≡ n) × (q ≡ goal)
+draw_end asked w i n q goal (inl h) es et = (omega (arith, taken_end w i q h), sym (take-append-drop i q) ∙ rw (← spared_end w i q h) es)
+draw_end asked w i n q goal (inr e) es et =
+    let t : asked - 0 + total (taken 0 (drop i q)) ≡ n = rw e at et in
+    (omega (arith, e, taken_none (drop i q)), sym (take-append-drop i q) ∙ (rw (e, spared_none) at es))
+
 -- ---- the deposit
-pub joined_is : (k f : ℕ) (q : List ℕ) → 0 < k → joined k f q ≡ set q (k - 1) (get_or q (k - 1) 0 + f)
+pub joined_is : {k i : ℕ} (f : ℕ) (q : List ℕ) → (1 ≤ k) × (i ≡ k - 1) → set q i (get_or q i 0 + f) ≡ joined k f q
 unfolding joined
-joined_is zero f q h = absurd (omega arith)
-joined_is (suc k) f q h =
-    let e : suc k - 1 ≡ k = omega arith in
+joined_is {k = zero} f q h = absurd (omega (arith, h.0))
+joined_is {k = suc k} {i = i} f q h =
+    let e : i ≡ k = omega (arith, h.1) in
     rw e
 
-pub joined_none : (f : ℕ) (q : List ℕ) → joined 0 f q ≡ q
+pub joined_none : {k : ℕ} (f : ℕ) (q : List ℕ) → ¬ (1 ≤ k) → q ≡ joined k f q
 unfolding joined
-joined_none f q = refl
+joined_none {k = zero} f q h = refl
+joined_none {k = suc k} f q h = absurd (h (omega arith))
 
 -- no slot holds more than all together
 pub total_elem : (i : ℕ) (q : List ℕ) → get_or q i 0 ≤ total q

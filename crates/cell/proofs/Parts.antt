@@ -1,9 +1,5 @@
 -- The parts of an accepted step, put together: what each call in `turn` asks, and what all of them give. Assumes nothing.
-use mathlib.Core.Path.{◌≡◌, ◌∙◌}
-use mathlib.Core.List.{List, [], ◌∷◌, ◌++◌}
-use Prim.Native.Nat.{ℕ, ◌+◌, ◌-◌, ◌^◌, ◌≤◌, ◌<◌}
-use native.Mathlib.Omega.{arith}
-use lib.ListN.{length, take, drop, set}
+use Rattle.std.proofs.Common.{◌≡◌, ◌∙◌, List, [], ◌∷◌, ◌++◌, ℕ, ◌+◌, ◌-◌, ◌^◌, ◌≤◌, ◌<◌, arith, length, take, drop, set}
 use borrow.Rule.Slice.PartMut.{put_mid}
 use Rattle.cell.specs.declared.Card.{Card}
 use Rattle.cell.specs.declared.Depth.{Depth}
@@ -20,8 +16,8 @@ use Rattle.cell.specs.QueueLaws.{SlotsIn, joined_le, total_in, total_shifted, to
 use Rattle.cell.specs.Step.{given, release, delay, lack, draws, etstor, etsat, drain, stored, direct, recharge, queue_after, step_amounts}
 use Rattle.cell.proofs.StepLaws.{delay_most, lack_pet, drain_most, sunk_most, stored_most, etstor_lack, release_most}
 
-module _ (card : Card) (soil : Soil) (r : Reading) (d : Depth) (h : Checked card soil r d) (q : List ℕ) (long : length q ≡ card.delays) (inside : SlotsIn card.delays q) where
-  module _ (w : Wetting) (ew : w ≡ wetting_of card soil r d) where
+module _ {card : Card} {soil : Soil} {r : Reading} {d : Depth} (h : Checked card soil r d) (q : List ℕ) (long : length q ≡ card.delays) (inside : SlotsIn card.delays q) where
+  module _ {w : Wetting} (ew : w ≡ wetting_of card soil r d) where
     lack_is : w.lack.0 ≡ lack card soil r d
     unfolding wetting_of
     lack_is = rw ew
@@ -30,22 +26,18 @@ module _ (card : Card) (soil : Soil) (r : Reading) (d : Depth) (h : Checked card
     unfolding wetting_of
     lack_small = rw ew (omega (arith, lack_pet card soil r d h, h.pet))
 
-    module _ (p : Pulled) (q1 : List ℕ) (pulls : Pulls w.lack.0 q p q1) where
-      pub settling : Settling soil r d w p.release.0 p.drawn.0
+    module _ {p : Pulled} {q1 : List ℕ} (pulls : Pulls w.lack.0 q p q1) where
+      pub settling : Settling r w p.release.0 p.drawn.0
       unfolding wetting_of release etstor draws
       settling =
           record {
-            etdepth = h.etdepth;
-            septic = h.septic;
-            pet = h.pet;
-            depth = h.depth;
             drain = rw ew (drain_most card soil r d h);
             sunk = rw ew (sunk_most card soil r d h);
             asked = rw (pulls.drawn_is, ew) (omega (arith, etstor_lack card soil r d h q, lack_pet card soil r d h));
             released = rw pulls.release_is (release_most card soil r d h q inside);
           }
 
-      module _ (s : Settled) (es : s ≡ settled_of soil r d w p.release.0 p.drawn.0) where
+      module _ {s : Settled} (es : s ≡ settled_of soil r d w p.release.0 p.drawn.0) where
         stored_is : s.stored.0 ≡ stored card soil r d
         unfolding settled_of wetting_of stored
         stored_is = rw (es, ew)
@@ -63,7 +55,7 @@ module _ (card : Card) (soil : Soil) (r : Reading) (d : Depth) (h : Checked card
               few = omega (arith, stored_is, stored_most card soil r d h, total_in card.delays q h.delays inside, h.delays);
             }
 
-        module _ (left : ℕ) (q2 : List ℕ) (puts : Puts w.delay s.stored.0 q1 left q2) where
+        module _ {left : ℕ} {q2 : List ℕ} (puts : Puts w.delay s.stored.0 q1 left q2) where
           pub queue_is : q2 ≡ queue_after card soil r d q
           unfolding queue_after
           queue_is = rw (puts.queue_is, pulls.queue_is, stored_is, delay_is, lack_is)

@@ -1,14 +1,7 @@
 -- 15 and the step's row: what the calls in `accept` ask, and what they give. Assumes nothing.
-use mathlib.Core.Path.{◌≡◌, sym, ◌∙◌}
-use mathlib.Core.Bool.{true, false, ◌&&◌, and-eq-true_iff}
-use mathlib.Core.List.{List}
-use Prim.Native.Nat.{ℕ, ◌+◌, ◌≤◌, ◌<◌}
-use native.Mathlib.Omega.{arith}
-use borrow.Author.Tests.{leb-true}
-use lib.Dec.{leb}
-use lib.ListN.{length}
+use Rattle.std.proofs.Common.{Ok, Err, ◌≡◌, sym, ◌∙◌, true, false, ◌&&◌, List, ℕ, ◌+◌, ◌≤◌, arith, leb-true, leb, length}
+use Rattle.std.proofs.Math.Bool.{and-eq-true_iff}
 use Rattle.cell.specs.declared.Amounts.{Amounts}
-use Rattle.cell.specs.declared.Answer.TheVariants.{Accepted, Refused}
 use Rattle.cell.specs.declared.Card.{Card}
 use Rattle.cell.specs.declared.Depth.{Depth}
 use Rattle.cell.specs.declared.Entry.{Entry}
@@ -24,8 +17,8 @@ use Rattle.cell.proofs.StepLaws.{runoff_given, given_most, drain_most, moved_len
 use Rattle.cell.specs.Sums.{runoff_at, drain_at, sum_limit, sum_of, with_sum, added}
 use Rattle.cell.proofs.SumLaws.{with_length, with_apart}
 
-module _ (card : Card) (soil : Soil) (r : Reading) (d : Depth) (h : Checked card soil r d) (row : List ℕ) (ok : row_ok card row ≡ true)
-    (w : Wetting) (ew : w ≡ wetting_of card soil r d) where
+module _ {card : Card} {soil : Soil} {r : Reading} {d : Depth} (h : Checked card soil r d) (row : List ℕ) (ok : row_ok card row ≡ true)
+    {w : Wetting} (ew : w ≡ wetting_of card soil r d) where
   ran_is : w.runoff.0 ≡ runoff card soil r d
   unfolding wetting_of
   ran_is = rw ew
@@ -34,36 +27,36 @@ module _ (card : Card) (soil : Soil) (r : Reading) (d : Depth) (h : Checked card
   unfolding wetting_of
   out_is = rw ew
 
-  pub first_asked : (runoff_at < 1000) × (sum_of runoff_at row ≤ sum_limit) × (w.runoff.0 ≤ sum_limit)
-  first_asked = (omega arith, (row_in card row ok).form.runoff, omega (arith, ran_is, runoff_given card soil r d h, given_most card soil r d h))
+  pub first_asked : (sum_of runoff_at row ≤ sum_limit) × (w.runoff.0 ≤ sum_limit)
+  first_asked = ((row_in card row ok).form.runoff, omega (arith, ran_is, runoff_given card soil r d h, given_most card soil r d h))
 
-  pub second_asked : (drain_at < 1000) × (sum_of drain_at row ≤ sum_limit) × (w.drain.0 ≤ sum_limit)
-  second_asked = (omega arith, (row_in card row ok).form.drain, omega (arith, out_is, drain_most card soil r d h))
+  pub second_asked : (sum_of drain_at row ≤ sum_limit) × (w.drain.0 ≤ sum_limit)
+  second_asked = ((row_in card row ok).form.drain, omega (arith, out_is, drain_most card soil r d h))
 
   -- what 15 says of the sums as they would be
-  module _ (ran drained : ℕ) (er : ran ≡ sum_of runoff_at row + w.runoff.0) (ed : drained ≡ sum_of drain_at row + w.drain.0) where
+  module _ {ran drained : ℕ} (er : ran ≡ sum_of runoff_at row + w.runoff.0) (ed : drained ≡ sum_of drain_at row + w.drain.0) where
     takes : sums_take card soil (Entry.Reading r) d row ≡ (leb ran sum_limit && leb drained sum_limit)
     unfolding sums_take
     takes = rw (er, ed, ran_is, out_is)
 
-    pub no_room : (leb ran sum_limit && leb drained sum_limit) ≡ false → AcceptGives card soil r d row (Refused FullSums) row
+    pub no_room : (leb ran sum_limit && leb drained sum_limit) ≡ false → AcceptGives card soil r d row (Err FullSums) row
     no_room f = let e : sums_take card soil (Entry.Reading r) d row ≡ false = takes ∙ f in record { answer_is = rw e; row_is = rw e }
 
-    module _ (f : (leb ran sum_limit && leb drained sum_limit) ≡ true) (moved : List ℕ) (em : moved ≡ row_moved card soil (Entry.Reading r) d row) where
+    module _ (f : (leb ran sum_limit && leb drained sum_limit) ≡ true) {moved : List ℕ} (em : moved ≡ row_moved card soil (Entry.Reading r) d row) where
       fit : (ran ≤ sum_limit) × (drained ≤ sum_limit)
       fit = let p = (and-eq-true_iff (leb ran sum_limit) (leb drained sum_limit)).0 f in (leb-true ran sum_limit p.0, leb-true drained sum_limit p.1)
 
       long : drain_at + 2 ≤ length moved
       long = rw em (omega (arith, moved_length card soil r d h row ok))
 
-      pub first_put : (runoff_at < 1000) × (runoff_at + 2 ≤ length moved) × (ran ≤ sum_limit)
-      first_put = (omega arith, omega (arith, long), fit.0)
+      pub first_put : (runoff_at + 2 ≤ length moved) × (ran ≤ sum_limit)
+      first_put = (omega (arith, long), fit.0)
 
-      module _ (next : List ℕ) (en : next ≡ with_sum runoff_at ran moved) where
-        pub second_put : (drain_at < 1000) × (drain_at + 2 ≤ length next) × (drained ≤ sum_limit)
-        second_put = (omega arith, rw en (omega (arith, long, with_length runoff_at ran moved)), fit.1)
+      module _ {next : List ℕ} (en : next ≡ with_sum runoff_at ran moved) where
+        pub second_put : (drain_at + 2 ≤ length next) × (drained ≤ sum_limit)
+        second_put = (rw en (omega (arith, long, with_length runoff_at ran moved)), fit.1)
 
-        pub stepped : {a : Amounts} {after : List ℕ} → a ≡ step_amounts card soil r d (queue_of card.delays row) → after ≡ with_sum drain_at drained next → AcceptGives card soil r d row (Accepted a) after
+        pub stepped : {a : Amounts} {after : List ℕ} → a ≡ step_amounts card soil r d (queue_of card.delays row) → after ≡ with_sum drain_at drained next → AcceptGives card soil r d row (Ok a) after
         unfolding row_after runoff_by drain_by added
         stepped ea ef =
             let e : sums_take card soil (Entry.Reading r) d row ≡ true = takes ∙ f in

@@ -1,11 +1,5 @@
 -- [3] A still day is a void: the same checks, and the shift alone. So what is known of readings is known of entries. Assumes nothing.
-use Rattle.std.specs.Prelude.{◌≡◌, Bool, true, false, ◌&&◌, ℕ, ◌+◌, ◌≤◌, ℤ, get_or}
-use Rattle.std.proofs.Math.Path.{refl, sym, ap}
-use Rattle.std.proofs.Common.{◌∙◌, arith}
-use mathlib.Core.List.{List, ◌∷◌, ◌++◌}
-use borrow.Author.Tests.{le-leb}
-use Rattle.std.proofs.Math.IntN.{pos}
-use Rattle.std.proofs.Math.ListN.{drop}
+use Rattle.std.proofs.Common.{◌≡◌, Bool, true, false, ◌&&◌, ℕ, ◌+◌, ◌≤◌, ℤ, get_or, Ok, refl, sym, ap, ◌∙◌, arith, List, ◌∷◌, ◌++◌, le-leb, pos, drop}
 use Rattle.head.specs.ClassLaws.{dry_mark}
 use Rattle.cell.specs.declared.Card.{Card}
 use Rattle.cell.specs.declared.Depth.{Depth}
@@ -13,7 +7,6 @@ use Rattle.cell.specs.declared.Entry.{Entry}
 use Rattle.cell.specs.declared.Notice.{Notice}
 use Rattle.cell.specs.declared.ranges.Soil.{Soil}
 use Rattle.cell.specs.declared.Refusal.TheVariants.{BadReading}
-use Rattle.cell.specs.declared.checks.Verdict.TheVariants.{Fine}
 use Rattle.cell.specs.Depth.{dry_depth}
 use Rattle.cell.specs.Ranges.{noticed, notice_of, notice_ok, fields_ok, queue_of, row_ok}
 use Rattle.cell.specs.RangeLaws.{row_in}
@@ -50,13 +43,13 @@ unfolding verdict_of
 verdict_as card soil row e = rw (notice_as e, fields_as (get_or soil 0 (pos 0)) e)
 
 -- a void that passes is at the dry depth
-pub void_depth : (top : ℤ) (n : Notice) (d : Depth) → fields_verdict top (Entry.Void n) ≡ Fine d → (notice_ok n ≡ true) × (dry_depth ≡ d)
+pub void_depth : (top : ℤ) (n : Notice) (d : Depth) → fields_verdict top (Entry.Void n) ≡ Ok d → (notice_ok n ≡ true) × (dry_depth ≡ d)
 unfolding fields_verdict unless
 void_depth top n d f = go (notice_ok n) f
   where
-    go : (b : Bool) → unless b BadReading (Fine dry_depth) ≡ Fine d → (b ≡ true) × (dry_depth ≡ d)
+    go : (b : Bool) → unless b BadReading (Ok dry_depth) ≡ Ok d → (b ≡ true) × (dry_depth ≡ d)
     go true e = (refl, cc)
-    go false e = let z : ◌≡◌ {A = ℕ} 0 1 = cc in absurd (omega arith)
+    go false e = cc
 
 -- ---- the step
 module _ (card : Card) (soil : Soil) (n : Notice) (h : Checked card soil (still_of n) dry_depth) where
@@ -106,23 +99,23 @@ module _ (card : Card) (soil : Soil) (n : Notice) (h : Checked card soil (still_
 
 -- ---- of any entry: its step is that of the reading it is stepped as
 module _ (card : Card) (soil : Soil) (top : ℤ) where
-  pub amounts_as : (e : Entry) (d : Depth) → fields_verdict top e ≡ Fine d → Checked card soil (reading_of e) d → (q : List ℕ) → amounts_by card soil e d q ≡ step_amounts card soil (reading_of e) d q
+  pub amounts_as : (e : Entry) (d : Depth) → fields_verdict top e ≡ Ok d → Checked card soil (reading_of e) d → (q : List ℕ) → amounts_by card soil e d q ≡ step_amounts card soil (reading_of e) d q
   unfolding amounts_by
   amounts_as (Entry.Reading r) d f h q = refl
   amounts_as (Entry.Void n) d f h q = let e = (void_depth top n d f).1 in rw (← e) (sym (still_amounts card soil n (rw (← e) at h) q))
 
-  pub queue_as : (e : Entry) (d : Depth) → fields_verdict top e ≡ Fine d → Checked card soil (reading_of e) d → (q : List ℕ) → queue_by card soil e d q ≡ queue_after card soil (reading_of e) d q
+  pub queue_as : (e : Entry) (d : Depth) → fields_verdict top e ≡ Ok d → Checked card soil (reading_of e) d → (q : List ℕ) → queue_by card soil e d q ≡ queue_after card soil (reading_of e) d q
   unfolding queue_by
   queue_as (Entry.Reading r) d f h q = refl
   queue_as (Entry.Void n) d f h q = let e = (void_depth top n d f).1 in rw (← e) (sym (still_queue card soil n (rw (← e) at h) q))
 
-  moved_as : (e : Entry) (d : Depth) → fields_verdict top e ≡ Fine d → Checked card soil (reading_of e) d → (row : List ℕ) → row_moved card soil e d row ≡ row_moved card soil (Entry.Reading (reading_of e)) d row
+  moved_as : (e : Entry) (d : Depth) → fields_verdict top e ≡ Ok d → Checked card soil (reading_of e) d → (row : List ℕ) → row_moved card soil e d row ≡ row_moved card soil (Entry.Reading (reading_of e)) d row
   unfolding row_moved queue_by
   moved_as e d f h row = ap (λ (n : Notice). n.life ∷ (n.count + 1) ∷ (queue_by card soil e d (queue_of card.delays row) ++ drop card.delays (drop 2 row))) (sym (notice_as e))
       ∙ ap (λ (q : List ℕ). (reading_of e).life ∷ ((reading_of e).count + 1) ∷ (q ++ drop card.delays (drop 2 row))) (queue_as e d f h (queue_of card.delays row))
 
   -- [6] what it adds to the sums
-  adds_as : (e : Entry) (d : Depth) → fields_verdict top e ≡ Fine d → Checked card soil (reading_of e) d
+  adds_as : (e : Entry) (d : Depth) → fields_verdict top e ≡ Ok d → Checked card soil (reading_of e) d
       → (runoff_by card soil e d ≡ runoff card soil (reading_of e) d) × (drain_by card soil e d ≡ drain card soil (reading_of e) d)
   unfolding runoff_by drain_by
   adds_as (Entry.Reading r) d f h = (refl, refl)
@@ -131,12 +124,12 @@ module _ (card : Card) (soil : Soil) (top : ℤ) where
       let k = rw (← e) at h in
       rw (← e) (sym (no_runoff card soil n k), sym (no_drain card soil n k))
 
-  pub row_as : (e : Entry) (d : Depth) → fields_verdict top e ≡ Fine d → Checked card soil (reading_of e) d → (row : List ℕ) → row_after card soil e d row ≡ row_after card soil (Entry.Reading (reading_of e)) d row
+  pub row_as : (e : Entry) (d : Depth) → fields_verdict top e ≡ Ok d → Checked card soil (reading_of e) d → (row : List ℕ) → row_after card soil e d row ≡ row_after card soil (Entry.Reading (reading_of e)) d row
   unfolding row_after runoff_by drain_by
   row_as e d f h row = let a = adds_as e d f h in rw (a.0, a.1, moved_as e d f h row)
 
   -- 15, which a row in range passes where nothing is added
-  pub take_as : (e : Entry) (d : Depth) → fields_verdict top e ≡ Fine d → Checked card soil (reading_of e) d → (row : List ℕ) → row_ok card row ≡ true
+  pub take_as : (e : Entry) (d : Depth) → fields_verdict top e ≡ Ok d → Checked card soil (reading_of e) d → (row : List ℕ) → row_ok card row ≡ true
       → sums_take card soil (Entry.Reading (reading_of e)) d row ≡ sums_take card soil e d row
   unfolding sums_take runoff_by drain_by
   take_as (Entry.Reading r) d f h row ok = refl

@@ -1,10 +1,5 @@
 -- The starred cases of "Both sides of each edge", all of them: one table under one statement, computed over the definitions. Assumes nothing.
-use Rattle.std.proofs.Math.Path.{◌≡◌, refl}
-use Rattle.std.proofs.Common.{ap, ◌∙◌, eqb→eq}
-use Rattle.std.specs.Prelude.{Bool, cond, List, [], ◌∷◌, T, eqb, ℤ, pos, negsuc, length, get_or}
-use Rattle.std.proofs.Math.Bool.{true, false}
-use Prim.Native.Nat.{ℕ, zero, suc, ◌+◌, ◌-◌, ◌<◌, min}
-use native.Mathlib.Omega.{arith}
+use Rattle.std.proofs.Common.{◌≡◌, refl, ap, ◌∙◌, eqb→eq, Bool, cond, List, [], ◌∷◌, T, eqb, ℤ, pos, negsuc, length, get_or, true, false, ℕ, zero, suc, ◌+◌, ◌-◌, ◌<◌, min, arith}
 use Rattle.std.specs.Float.{binary32}
 use Rattle.std.specs.Float.Ieee.{of_bits}
 use Rattle.std.proofs.lemmas.List.{set-get_or}

@@ -1,8 +1,10 @@
 -- The cell rules, in the order of document 01: ranges, refusals, the depth, the queue, the rules of an accepted step, the step, collecting, its cases.
 pub mod Water
+pub mod Limits
 pub mod Sums
 pub mod Ranges
 pub mod Depth
+pub mod Answers
 pub mod Refusals
 pub mod Queue
 pub mod Rules

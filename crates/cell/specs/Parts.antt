@@ -1,9 +1,8 @@
 -- An accepted step, and the range of the slots, in the parts that the code works them out in: what each part gives, and the ranges that it asks of its caller.
 -- Nothing here says what is right: the parts are proved to come to `Step` and `Ranges`.
-use Rattle.std.specs.Prelude.{◌≡◌, ℕ, ◌+◌, ◌-◌, ◌^◌, ◌≤◌, ◌<◌, Bool, true, cond, ◌&&◌, List, [], ◌∷◌, leb, length}
+use Rattle.std.specs.Prelude.{◌≡◌, ℕ, ◌+◌, ◌-◌, ◌^◌, ◌≤◌, ◌<◌, Bool, true, cond, ◌&&◌, List, [], ◌∷◌, leb, length, Ok, Err}
+use Rattle.cell.specs.Answers.{Answer}
 use Rattle.cell.specs.declared.Amounts.{Amounts}
-use Rattle.cell.specs.declared.Answer.{Answer}
-use Rattle.cell.specs.declared.Answer.TheVariants.{Accepted, Refused}
 use Rattle.cell.specs.declared.Card.{Card}
 use Rattle.cell.specs.declared.Depth.{Depth}
 use Rattle.cell.specs.declared.Entry.{Entry}
@@ -14,6 +13,9 @@ use Rattle.cell.specs.declared.ranges.Soil.{Soil}
 use Rattle.cell.specs.declared.queue.Pulled.{Pulled}
 use Rattle.cell.specs.declared.step.Wetting.{Wetting}
 use Rattle.cell.specs.declared.step.Settled.{Settled}
+use Rattle.cell.specs.declared.sums.Sum.{Sum}
+use Rattle.cell.specs.declared.sums.Sum.TheVariants.{Runoff, Drain}
+use Rattle.cell.specs.Sums.{runoff_at, drain_at}
 use Rattle.cell.specs.Water.{water, net}
 use Rattle.cell.specs.Depth.{distance}
 use Rattle.cell.specs.Queue.{slot, total, shifted, taken, spared, joined}
@@ -52,11 +54,7 @@ wetting_of card soil r d =
     }
 
 -- ---- 8, the stored of 10 and 11, of what the first part gave, of the release and of what was drawn
-pub record Settling (soil : Soil) (r : Reading) (d : Depth) (w : Wetting) (release etstor : ℕ) : Type 0 where
-  pub etdepth : soil.etdepth ≤ 100000000
-  pub septic : r.septic ≤ 1000000
-  pub pet : r.pet ≤ 1000000
-  pub depth : distance d ≤ 20000000000
+pub record Settling (r : Reading) (w : Wetting) (release etstor : ℕ) : Type 0 where
   pub drain : w.drain.0 ≤ 20000000000
   pub sunk : w.sunk.0 ≤ 2000000
   pub asked : w.etvad.0 + etstor ≤ r.pet
@@ -103,10 +101,15 @@ gathered_of r w s p left =
 
 -- ---- [6] a reading whose other checks are passed: 15, then the step
 pub record AcceptGives (card : Card) (soil : Soil) (r : Reading) (d : Depth) (row : List ℕ) (answer : Answer) (after : List ℕ) : Type 0 where
-  pub answer_is : answer ≡ cond (sums_take card soil (Entry.Reading r) d row) (Accepted (step_amounts card soil r d (queue_of card.delays row))) (Refused FullSums)
+  pub answer_is : answer ≡ cond (sums_take card soil (Entry.Reading r) d row) (Ok (step_amounts card soil r d (queue_of card.delays row))) (Err FullSums)
   pub row_is : after ≡ cond (sums_take card soil (Entry.Reading r) d row) (row_after card soil (Entry.Reading r) d row) row
 
 -- ---- the range of the slots in use: `limit` at the first, 2,000,000 less at each after it
 unfoldable pub held_under : ℕ → List ℕ → Bool
 held_under limit [] = true
 held_under limit (s ∷ ss) = leb s limit && held_under (limit - 2000000) ss
+
+-- ---- where the high number of each sum stands in a row
+abbrev pub place_of : Sum → ℕ
+place_of Runoff = runoff_at
+place_of Drain = drain_at

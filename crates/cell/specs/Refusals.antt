@@ -1,9 +1,10 @@
 -- The refusal numbers of every call, and the checks of a row's step in their order. Definitions only.
-use Rattle.std.specs.Prelude.{ℕ, Bool, true, false, cond, not, ◌&&◌, ◌||◌, List, [], ◌∷◌, ltb, eqb, ℤ, pos, get_or}
+use Rattle.std.specs.Prelude.{Result, ℕ, Bool, true, false, cond, not, ◌&&◌, ◌||◌, List, [], ◌∷◌, ltb, eqb, ℤ, pos, get_or, Ok, Err}
 use Rattle.head.specs.declared.Head.{Head}
 use Rattle.head.specs.declared.Head.TheVariants.{Level, Dry, Inactive, Unusable}
 use Rattle.head.specs.Class.{class_of}
 use Rattle.head.specs.Level.{level_um}
+use Rattle.cell.specs.Answers.{Answer, Verdict}
 use Rattle.cell.specs.declared.Card.{Card}
 use Rattle.cell.specs.declared.Depth.{Depth}
 use Rattle.cell.specs.declared.Entry.{Entry}
@@ -12,10 +13,6 @@ use Rattle.cell.specs.declared.Reading.{Reading}
 use Rattle.cell.specs.declared.Amounts.{Amounts}
 use Rattle.cell.specs.declared.Refusal.{Refusal}
 use Rattle.cell.specs.declared.Refusal.TheVariants.{BadCard, BadLengths, BadCell, BadSoil, BadRow, Old, Gap, BadReading, JammedBucket, UnusableHead, InactiveHead, FullSums}
-use Rattle.cell.specs.declared.Answer.{Answer}
-use Rattle.cell.specs.declared.Answer.TheVariants.{Accepted, Refused}
-use Rattle.cell.specs.declared.checks.Verdict.{Verdict}
-use Rattle.cell.specs.declared.checks.Verdict.TheVariants.{Fine, Bad}
 use Rattle.cell.specs.Water.{water, net}
 use Rattle.cell.specs.Ranges.{card_ok, soil_ok, row_ok, notice_ok, fields_ok, notice_of, life_of, next_of}
 use Rattle.cell.specs.Depth.{depth_of, dry_depth}
@@ -52,10 +49,10 @@ first_failing [] = 0
 first_failing (check ∷ more) = cond check.1 (first_failing more) check.0
 
 -- ---- answers
--- the number of an answer: 0 where it was accepted
-abbrev pub number_of : Answer → ℕ
-number_of (Accepted a) = 0
-number_of (Refused r) = refusal_number r
+-- the number of what any call answers: 0 where it was accepted
+abbrev pub number_of : {A : Type 0} → Result A Refusal → ℕ
+number_of (Ok a) = 0
+number_of (Err r) = refusal_number r
 
 -- ten zero amounts
 abbrev pub nothing : Amounts
@@ -75,8 +72,8 @@ nothing =
 
 -- the amounts of an answer: zeros where it was refused
 abbrev pub amounts_of : Answer → Amounts
-amounts_of (Accepted a) = a
-amounts_of (Refused r) = nothing
+amounts_of (Ok a) = a
+amounts_of (Err r) = nothing
 
 -- ---- the checks of a row's step
 -- of a row's life and next count
@@ -114,10 +111,10 @@ depth_at top Unusable = dry_depth
 
 -- what passes 9 and 10 is a depth
 unfoldable pub sounded : ℤ → Head → Verdict
-sounded top Unusable = Bad UnusableHead
-sounded top Inactive = Bad InactiveHead
-sounded top Dry = Fine dry_depth
-sounded top (Level x) = Fine (depth_of top (level_um x))
+sounded top Unusable = Err UnusableHead
+sounded top Inactive = Err InactiveHead
+sounded top Dry = Ok dry_depth
+sounded top (Level x) = Ok (depth_of top (level_um x))
 
 -- 8, 17 [7], 9 and 10, each with its number and whether it is passed; of a void [3] the life and count part of 8, no other
 abbrev pub field_checks : Entry → List (ℕ × Bool)
@@ -130,9 +127,9 @@ field_checks (Entry.Reading r) =
 field_checks (Entry.Void n) = (8, notice_ok n) ∷ []
 
 -- a check: refused with r where it fails, else on to the next
-unfoldable pub unless : Bool → Refusal → Verdict → Verdict
+unfoldable pub unless : {A : Type 0} → Bool → Refusal → Result A Refusal → Result A Refusal
 unless true r next = next
-unless false r next = Bad r
+unless false r next = Err r
 
 -- the checks after 7: 8, 17 [7], 9 and 10 of a reading; of a void [3] the life and count part of 8. A verdict that passes carries a depth, at which no rule of a void looks
 unfoldable pub fields_verdict : ℤ → Entry → Verdict
@@ -140,7 +137,7 @@ fields_verdict top (Entry.Reading r) =
     unless (fields_ok r) BadReading
     (unless (not (is_jammed r)) JammedBucket
     (sounded top (class_of r.head)))
-fields_verdict top (Entry.Void n) = unless (notice_ok n) BadReading (Fine dry_depth)
+fields_verdict top (Entry.Void n) = unless (notice_ok n) BadReading (Ok dry_depth)
 
 -- the checks from 5 to 10, 17 [7] among them, in their order: of the row they ask whether it is in range, its life and its next count
 abbrev pub row_verdict : ℤ → Bool → ℕ → ℕ → Entry → Verdict

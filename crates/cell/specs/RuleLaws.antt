@@ -171,7 +171,7 @@ unfolding delay_of
 delay_over ds m n = refl
 
 -- ---- 5. no more runs off than came, and no less than the storm's
-shallow_le : (g q v n : ℕ) → q ≤ g → shallow_of g q v n ≤ g
+pub shallow_le : (g q v n : ℕ) → q ≤ g → shallow_of g q v n ≤ g
 unfolding shallow_of
 shallow_le g q v n h = either (λ r. r ≤ g) (ltb (n * v) (1000 * g)) (λ e. omega arith) (λ e. h)
 
@@ -204,7 +204,7 @@ lack_most etvad etmin (Over n) = omega arith
 lack_most etvad etmin (Under n) = omega arith
 
 -- ---- 8. what is taken of the rest is at most the rest
-fading_le : (rest e n : ℕ) → fading_of rest e n ≤ rest
+pub fading_le : (rest e n : ℕ) → fading_of rest e n ≤ rest
 unfolding fading_of
 fading_le rest e n = either (λ r. r ≤ rest) (ltb n e) (λ t. share (e - n) rest e (omega arith)) (λ t. omega arith)
 

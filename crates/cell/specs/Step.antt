@@ -1,9 +1,8 @@
 -- One accepted step of one plot, in document 01's order and with its step numbers; and what a call of the one-row step gives. Definitions only.
-use Rattle.std.specs.Prelude.{◌≡◌, Bool, true, ◌&&◌, List, [], ◌∷◌, ◌++◌, ℕ, ◌+◌, ◌-◌, leb, ℤ, pos, length, get_or, drop, replicate}
+use Rattle.std.specs.Prelude.{◌≡◌, Bool, true, ◌&&◌, List, [], ◌∷◌, ◌++◌, ℕ, ◌+◌, ◌-◌, leb, ℤ, pos, length, get_or, drop, replicate, Ok, Err}
 use Rattle.head.specs.Class.{class_of}
+use Rattle.cell.specs.Answers.{Answer, Verdict}
 use Rattle.cell.specs.declared.Amounts.{Amounts}
-use Rattle.cell.specs.declared.Answer.{Answer}
-use Rattle.cell.specs.declared.Answer.TheVariants.{Accepted, Refused}
 use Rattle.cell.specs.declared.Card.{Card}
 use Rattle.cell.specs.declared.Depth.{Depth}
 use Rattle.cell.specs.declared.Entry.{Entry}
@@ -11,8 +10,6 @@ use Rattle.cell.specs.declared.Reading.{Reading}
 use Rattle.cell.specs.declared.Refusal.{Refusal}
 use Rattle.cell.specs.declared.Refusal.TheVariants.{FullSums}
 use Rattle.cell.specs.declared.ranges.Soil.{Soil}
-use Rattle.cell.specs.declared.checks.Verdict.{Verdict}
-use Rattle.cell.specs.declared.checks.Verdict.TheVariants.{Fine, Bad}
 use Rattle.cell.specs.Water.{water, net}
 use Rattle.cell.specs.Ranges.{soil_of, queue_of, notice_of}
 use Rattle.cell.specs.Refusals.{refusal_number, number_of, nothing, amounts_of, depth_at, unless, verdict_of}
@@ -163,12 +160,12 @@ module _ (card : Card) (soil : Soil) where
 
 -- by the verdict of the checks: something of the depth where they pass, something of the refusal where not
 unfoldable pub judged : {A : Type 0} → Verdict → (Depth → A) → (Refusal → A) → A
-judged (Fine d) passed refused = passed d
-judged (Bad why) passed refused = refused why
+judged (Ok d) passed refused = passed d
+judged (Err why) passed refused = refused why
 
 -- [6] the verdict of all checks: those up to 10, then 15
 unfoldable pub final_of : Card → List ℤ → List ℕ → Entry → Verdict
-final_of card soil row e = judged (verdict_of card soil row e) (λ d. unless (sums_take card (soil_of soil) e d row) FullSums (Fine d)) (λ why. Bad why)
+final_of card soil row e = judged (verdict_of card soil row e) (λ d. unless (sums_take card (soil_of soil) e d row) FullSums (Ok d)) (λ why. Err why)
 
 -- 15 with its number and whether it is passed, where the table stands at the depth that the reading's head gives
 abbrev pub sum_checks : Card → List ℤ → List ℕ → Entry → List (ℕ × Bool)
@@ -177,7 +174,7 @@ sum_checks card soil row (Entry.Void n) = []
 
 -- accepted with the ten amounts, or refused
 unfoldable pub answer_of : Card → List ℤ → List ℕ → Entry → Answer
-answer_of card soil row e = judged (final_of card soil row e) (λ d. Accepted (amounts_by card (soil_of soil) e d (queue_of card.delays row))) (λ why. Refused why)
+answer_of card soil row e = judged (final_of card soil row e) (λ d. Ok (amounts_by card (soil_of soil) e d (queue_of card.delays row))) (λ why. Err why)
 
 -- the row at exit: refused, as it came
 unfoldable pub new_row : Card → List ℤ → List ℕ → Entry → List ℕ

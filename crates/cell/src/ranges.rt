@@ -1,13 +1,13 @@
 // Numbers and their ranges.
-ghost use Rattle.std.specs.Prelude.{◌≡◌, true, ◌&&◌, ◌-◌, ◌*◌, ◌≤◌, pos, nat_abs, leb, length, get_or};
-ghost use Rattle.std.specs.Int.Signed.{le_z};
+ghost use Rattle.std.specs.Prelude.{◌≡◌, true, false, ◌&&◌, ◌-◌, ◌*◌, ◌≤◌, leb, length, get_or, MatchResult};
 ghost use Rattle.cell.specs.Parts.{held_under};
-ghost use Rattle.cell.specs.Ranges.{none_of, rising_from, depths_ok, within, soil_ok, soil_of, slots_ok, form_ok, row_ok, fields_ok};
+ghost use Rattle.cell.specs.Ranges.{none_of, rising_from, depths_ok, soil_ok, soil_of, slots_ok, form_ok, row_ok, fields_ok};
 
-use crate::{Card, Reading, sums};
+use crate::sums::{SUM_LIMIT, Sum};
+use crate::{Card, Reading, Refusal};
 use head::Height;
 
-// The soil numbers of a cell, each in its range.
+// The soil numbers of a cell by their names.
 #[derive(Clone, Copy)]
 pub struct Soil {
     pub top: Height,
@@ -17,49 +17,40 @@ pub struct Soil {
     pub cn: u64,
 }
 
-// a - b, and 0 where b is the larger.
-pub fn less(a: u32, b: u32) -> u32
-    ensures { result ≡ a - b }
-{
-    if a < b { 0 } else { a - b }
-}
-
 // The number at a place; 0 past the end.
 pub fn number_at(v: &[u32], i: usize) -> u32
     ensures { result ≡ get_or v.now i 0 }
 {
-    if i < v.len() { v[i] } else { 0 }
+    v.get(i).copied().unwrap_or(0)
 }
 
 // Whether all numbers are 0. It looks at each, so that several can be looked at at once.
+#[tactic(auto, using(crate::proofs::Loops::none_turn, crate::proofs::Loops::none_end))]
 fn none(v: &[u32]) -> bool
     ensures { result ≡ none_of v.now }
 {
     let mut ok = true;
-    let mut i = 0;
-    while i < v.len() {
-        ok = ok & (v[i] == 0);
-        i += 1;
+    for x in v {
+        ok &= *x == 0;
     }
     ok
 }
 
 // Whether the delay depths in use rise from above 0, none above 1,000,000,000.
+#[tactic(auto, using(crate::proofs::Loops::rising_turn, crate::proofs::Loops::rising_end))]
 fn rising(used: &[u32]) -> bool
     ensures { result ≡ rising_from 0 used.now }
 {
     let mut ok = true;
-    let mut before: u32 = 0;
-    let mut i = 0;
-    while i < used.len() {
-        let d = used[i];
-        ok = ok & ((before < d) & (d <= 1000000000));
-        before = d;
-        i += 1;
+    let mut before = 0;
+    for d in used {
+        ok &= (before < *d) & (*d <= 1000000000);
+        before = *d;
     }
     ok
 }
 
+#[tactic(auto, using(crate::proofs::Loops::rest_is), unfolding(crate::specs::Ranges::depths_ok))]
 pub fn depths_ok(depths: [u32; 30], m: u32) -> bool
     requires { m ≤ 30 }
     ensures { result ≡ depths_ok m depths }
@@ -71,65 +62,48 @@ pub fn depths_ok(depths: [u32; 30], m: u32) -> bool
     none(&depths[n..])
 }
 
-fn in_range(low: i64, high: i64, z: i64) -> bool
-    ensures { result ≡ within low high z }
-{
-    (low <= z) & (z <= high)
-}
-
-// The five soil numbers of a cell are in their ranges.
-pub fn soil_ok(s: &[i64]) -> bool
-    ensures { result ≡ soil_ok s.now }
-{
-    if s.len() != 5 {
-        return false;
-    }
-    let top = in_range(-10000000000, 10000000000, s[0]);
-    let etdepth = in_range(1, 100000000, s[1]);
-    let vadpor = in_range(1, 1000, s[2]);
-    let leak = in_range(0, 1000000, s[3]);
-    let cn = in_range(1, 100, s[4]);
-    top & etdepth & vadpor & leak & cn
-}
-
-// A number that is not negative, without its sign.
-fn plain(z: i64) -> u64
-    requires { le_z (pos 0) z ≡ true }
-    ensures { result ≡ nat_abs z }
-{
-    z as u64
-}
-
-// The five soil numbers of a cell by their names.
-pub fn soil_of(s: &[i64]) -> Soil
-    requires { soil_ok s.now ≡ true }
-    ensures { result ≡ soil_of s.now }
-{
-    Soil {
-        top: Height(s[0]),
-        etdepth: plain(s[1]),
-        vadpor: plain(s[2]),
-        leak: plain(s[3]),
-        cn: plain(s[4]),
+impl Soil {
+    // The soil numbers of a cell by their names, where they are five and each is in its range.
+    pub fn of(s: &[i64]) -> Result<Soil, Refusal>
+        ensures { MatchResult result (λ soil. (soil_ok s.now ≡ true) × (soil ≡ soil_of s.now)) (λ why. (soil_ok s.now ≡ false) × (why ≡ Refusal.BadSoil)) }
+    {
+        let [top, etdepth, vadpor, leak, cn] = s else {
+            return Err(Refusal::BadSoil);
+        };
+        let fit = (-10000000000..=10000000000).contains(top)
+            & (1..=100000000).contains(etdepth)
+            & (1..=1000).contains(vadpor)
+            & (0..=1000000).contains(leak)
+            & (1..=100).contains(cn);
+        if !fit {
+            return Err(Refusal::BadSoil);
+        }
+        Ok(Soil {
+            top: Height(*top),
+            etdepth: etdepth.unsigned_abs(),
+            vadpor: vadpor.unsigned_abs(),
+            leak: leak.unsigned_abs(),
+            cn: cn.unsigned_abs(),
+        })
     }
 }
 
 // Whether each slot in use holds at most its limit, `most` at the first and 2,000,000 less at each after it.
+#[tactic(auto, using(crate::proofs::Loops::held_turn, crate::proofs::Loops::held_end))]
 fn held(used: &[u32], most: u32) -> bool
     requires { 2000000 * length used.now ≤ most }
     ensures { result ≡ held_under most used.now }
 {
     let mut ok = true;
     let mut limit = most;
-    let mut i = 0;
-    while i < used.len() {
-        ok = ok & (used[i] <= limit);
+    for held in used {
+        ok &= *held <= limit;
         limit -= 2000000;
-        i += 1;
     }
     ok
 }
 
+#[tactic(auto, using(crate::proofs::Loops::rest_is, crate::proofs::Loops::slots_split))]
 fn slots_ok(slots: &[u32], m: u32) -> bool
     requires { (m ≤ 30) × (length slots.now ≡ 30) }
     ensures { result ≡ slots_ok m slots.now }
@@ -141,6 +115,7 @@ fn slots_ok(slots: &[u32], m: u32) -> bool
 }
 
 // The numbers of a row in any of its forms are in range, under a number of delays that is.
+#[tactic(auto, unfolding(crate::specs::Ranges::form_ok, crate::specs::Ranges::life_of, crate::specs::Ranges::next_of, crate::specs::Ranges::slots_of))]
 pub fn form_ok(row: &[u32], m: u32) -> bool
     ensures { result ≡ (leb m 30 && form_ok m row.now) }
 {
@@ -151,13 +126,14 @@ pub fn form_ok(row: &[u32], m: u32) -> bool
         return false;
     }
     let slots = slots_ok(&row[2..32], m);
-    let runoff = sums::sum_of(row, sums::RUNOFF_AT);
-    let drain = sums::sum_of(row, sums::DRAIN_AT);
-    let most = sums::SUM_LIMIT;
+    let runoff = Sum::Runoff.of(row);
+    let drain = Sum::Drain.of(row);
+    let most = SUM_LIMIT;
     (row[0] <= 65535) & (row[1] <= 1000000) & slots & (runoff.0 <= most) & (drain.0 <= most)
 }
 
 // A stored row is in range, under a number of delays that is.
+#[tactic(auto, unfolding(crate::specs::Ranges::row_ok))]
 pub fn row_ok(card: Card, row: &[u32]) -> bool
     ensures { result ≡ (leb card.delays 30 && row_ok card row.now) }
 {
@@ -168,6 +144,7 @@ pub fn row_ok(card: Card, row: &[u32]) -> bool
 }
 
 // The fields of a reading, but for its cell and its head, are in their ranges.
+#[tactic(auto, unfolding(crate::specs::Ranges::fields_ok, crate::specs::Ranges::notice_ok))]
 pub fn fields_ok(r: Reading) -> bool
     ensures { result ≡ fields_ok r }
 {

@@ -1,5 +1,5 @@
 // One accepted step of one plot: shift, compute, draw, deposit.
-ghost use Rattle.std.specs.Prelude.{◌≡◌, length, true, ◌≤◌};
+ghost use Rattle.std.specs.Prelude.{◌≡◌, length, true};
 ghost use Rattle.cell.specs.Ranges.{queue_of, row_ok};
 ghost use Rattle.cell.specs.QueueLaws.{SlotsIn};
 ghost use Rattle.cell.specs.Parts.{Checked, wetting_of, Settling, settled_of, gathered_of, AcceptGives};
@@ -7,9 +7,20 @@ ghost use Rattle.cell.specs.Step.{queue_after, step_amounts, row_moved};
 
 use crate::queue::Pulled;
 use crate::ranges::Soil;
+use crate::sums::{SUM_LIMIT, Sum};
 use crate::{
     Amounts, Answer, Card, Depth, Entry, Net, Reading, Refusal, Water, queue, rules, sums,
 };
+
+// A day of one plot that has passed the checks from 1 to 10: the card, the soil, the reading, and how deep the table stands.
+#[derive(Clone, Copy)]
+pub struct Day {
+    pub card: Card,
+    pub soil: Soil,
+    pub reading: Reading,
+    pub depth: Depth,
+    ghost checked: { Checked card soil reading depth },
+}
 
 // What becomes of the day's water, whatever waits in the queue.
 #[derive(Clone, Copy)]
@@ -30,126 +41,113 @@ pub struct Settled {
     pub recharge: Net,
 }
 
-// 2 to 6, the lack of 7, the drain of 9 and the F of 10.
-fn wet(card: Card, soil: Soil, r: Reading, d: Depth) -> Wetting
-    requires { Checked card soil r d }
-    ensures { result ≡ wetting_of card soil r d }
-{
-    let rain = Water(r.rain as u64);
-    let irrig = Water(r.irrig as u64);
-    let etmin = Water(r.etmin as u64);
-    let g = Water(rain.0 + irrig.0);
-    let q = rules::storm_on(card.share as u64, soil.cn, r.amc, rain);
-    let k = rules::delay(card, d);
-    let runoff = rules::runoff(g, q, k, soil.vadpor, d);
-    let etvad = rules::etvad(g, runoff, Water(r.pet as u64), etmin, irrig);
-    Wetting {
-        delay: k,
-        runoff: runoff,
-        etvad: etvad,
-        lack: rules::lack(etvad, etmin, d),
-        drain: rules::drain(soil.leak, d),
-        sunk: Water(g.0 - runoff.0 - etvad.0),
+impl Day {
+    // 2 to 6, the lack of 7, the drain of 9 and the F of 10.
+    #[tactic(auto, unfolding(crate::specs::Parts::wetting_of, crate::specs::Step::given, crate::specs::Step::curve, crate::specs::Step::storm, crate::specs::Step::delay, crate::specs::Step::runoff, crate::specs::Step::etvad, crate::specs::Step::lack, crate::specs::Step::drain, crate::specs::Step::sunk))]
+    fn wet(&self) -> Wetting
+        ensures { result ≡ wetting_of self.now.card self.now.soil self.now.reading self.now.depth }
+    {
+        let r = self.reading;
+        let d = self.depth;
+        let rain = Water(u64::from(r.rain));
+        let irrig = Water(u64::from(r.irrig));
+        let etmin = Water(u64::from(r.etmin));
+        let g = Water(rain.0 + irrig.0);
+        let q = rules::storm_on(u64::from(self.card.share), self.soil.cn, r.amc, rain);
+        let delay = rules::delay(self.card, d);
+        let runoff = rules::runoff(g, q, delay, self.soil.vadpor, d);
+        let etvad = rules::etvad(g, runoff, Water(u64::from(r.pet)), etmin, irrig);
+        Wetting {
+            delay,
+            runoff,
+            etvad,
+            lack: rules::lack(etvad, etmin, d),
+            drain: rules::drain(self.soil.leak, d),
+            sunk: Water(g.0 - runoff.0 - etvad.0),
+        }
     }
-}
 
-// 8, the stored of 10, and 11.
-fn settle(soil: Soil, r: Reading, d: Depth, w: Wetting, p: Pulled) -> Settled
-    requires { Settling soil r d w p.release.0 p.drawn.0 }
-    ensures { result ≡ settled_of soil r d w p.release.0 p.drawn.0 }
-{
-    let release = p.release;
-    let etstor = p.drawn;
-    let k = w.delay;
-    let sunk = w.sunk;
-    let etvad = w.etvad;
-    let drain = w.drain;
-    let rest = Water((r.pet as u64) - etvad.0 - etstor.0);
-    let etsat = rules::etsat(rest, soil.etdepth, d);
-    let direct = rules::direct(k, sunk);
-    let recharge = rules::recharge(release, direct, Water(r.septic as u64), etsat, drain);
-    Settled {
-        etsat: etsat,
-        stored: rules::stored(k, sunk),
-        recharge: recharge,
+    // 8, the stored of 10, and 11.
+    #[tactic(auto, unfolding(crate::specs::Parts::settled_of))]
+    fn settle(&self, w: Wetting, p: Pulled) -> Settled
+        requires { Settling self.now.reading w p.release.0 p.drawn.0 }
+        ensures { result ≡ settled_of self.now.soil self.now.reading self.now.depth w p.release.0 p.drawn.0 }
+    {
+        let rest = Water(u64::from(self.reading.pet) - w.etvad.0 - p.drawn.0);
+        let etsat = rules::etsat(rest, self.soil.etdepth, self.depth);
+        let direct = rules::direct(w.delay, w.sunk);
+        let septic = Water(u64::from(self.reading.septic));
+        Settled {
+            etsat,
+            stored: rules::stored(w.delay, w.sunk),
+            recharge: rules::recharge(p.release, direct, septic, etsat, w.drain),
+        }
     }
-}
 
-// Shift, compute, draw, deposit, on the waiting queue.
-fn turn(slots: &mut [u32], card: Card, soil: Soil, r: Reading, d: Depth, w: Wetting) -> Amounts
-    requires checked { Checked card soil r d }
-    requires slots_used { length slots.old ≡ card.delays }
-    requires slots_in { SlotsIn card.delays slots.old }
-    requires wetting { w ≡ wetting_of card soil r d }
-    ensures { (result ≡ step_amounts card soil r d slots.old) × (slots.new ≡ queue_after card soil r d slots.old) }
-{
-    let lack = w.lack;
-    let p = queue::pull(slots, lack);
-    let s = settle(soil, r, d, w, p);
-    let stored = s.stored;
-    let left = queue::put(slots, w.delay, stored);
-    gathered(r, w, s, p, left)
-}
-
-// The ten amounts, from the parts of the step.
-fn gathered(r: Reading, w: Wetting, s: Settled, p: Pulled, left: Water) -> Amounts
-    requires { (r.rain ≤ 1000000) × (r.irrig ≤ 1000000) × (r.septic ≤ 1000000) }
-    ensures { result ≡ gathered_of r w s p left }
-{
-    let inflow = (r.rain as u64) + (r.irrig as u64) + (r.septic as u64);
-    let runoff = w.runoff;
-    let etvad = w.etvad;
-    let etstor = p.drawn;
-    let etsat = s.etsat;
-    let drain = w.drain;
-    let release = p.release;
-    let stored = s.stored;
-    let recharge = s.recharge;
-    Amounts {
-        inflow: Water(inflow),
-        runoff: runoff,
-        etvad: etvad,
-        etstor: etstor,
-        etsat: etsat,
-        drain: drain,
-        release: release,
-        stored: stored,
-        recharge: recharge,
-        left: left,
+    // Shift, compute, draw, deposit, on the waiting queue.
+    fn turn(&self, w: Wetting, slots: &mut [u32]) -> Amounts
+        requires slots_used { length slots.old ≡ self.now.card.delays }
+        requires slots_in { SlotsIn self.now.card.delays slots.old }
+        requires wetting { w ≡ wetting_of self.now.card self.now.soil self.now.reading self.now.depth }
+        ensures amounts { result ≡ step_amounts self.now.card self.now.soil self.now.reading self.now.depth slots.old }
+        ensures queue { slots.new ≡ queue_after self.now.card self.now.soil self.now.reading self.now.depth slots.old }
+    {
+        let p = queue::pull(slots, w.lack);
+        let s = self.settle(w, p);
+        let left = queue::put(slots, w.delay, s.stored);
+        self.gathered(w, s, p, left)
     }
-}
 
-// A row moved on by an accepted step, but for its sums: the queue is the part of it after life and next count.
-fn advance(card: Card, soil: Soil, r: Reading, d: Depth, w: Wetting, row: &mut [u32]) -> Amounts
-    requires checked { Checked card soil r d }
-    requires row_fits { row_ok card row.old ≡ true }
-    requires wetting { w ≡ wetting_of card soil r d }
-    ensures { (result ≡ step_amounts card soil r d (queue_of card.delays row.old)) × (row.new ≡ row_moved card soil (Entry.Reading r) d row.old) }
-{
-    let end = 2 + (card.delays as usize);
-    let amounts = turn(&mut row[2..end], card, soil, r, d, w);
-    row[0] = r.life;
-    row[1] = r.count + 1;
-    amounts
-}
-
-// 15, then one accepted step of a row. Nothing is written before 15 is passed.
-pub fn accept(card: Card, soil: Soil, r: Reading, d: Depth, row: &mut [u32]) -> Answer
-    requires checked { Checked card soil r d }
-    requires row_fits { row_ok card row.old ≡ true }
-    ensures { AcceptGives card soil r d row.old result row.new }
-{
-    let w = wet(card, soil, r, d);
-    let runoff = w.runoff;
-    let drain = w.drain;
-    let ran = sums::grown(row, sums::RUNOFF_AT, runoff);
-    let drained = sums::grown(row, sums::DRAIN_AT, drain);
-    let room = (ran.0 <= sums::SUM_LIMIT) & (drained.0 <= sums::SUM_LIMIT);
-    if !room {
-        return Answer::Refused(Refusal::FullSums);
+    // The ten amounts, from the parts of the step.
+    #[tactic(auto, unfolding(crate::specs::Parts::gathered_of))]
+    fn gathered(&self, w: Wetting, s: Settled, p: Pulled, left: Water) -> Amounts
+        ensures { result ≡ gathered_of self.now.reading w s p left }
+    {
+        let r = self.reading;
+        let inflow = Water(u64::from(r.rain) + u64::from(r.irrig) + u64::from(r.septic));
+        Amounts {
+            inflow,
+            runoff: w.runoff,
+            etvad: w.etvad,
+            etstor: p.drawn,
+            etsat: s.etsat,
+            drain: w.drain,
+            release: p.release,
+            stored: s.stored,
+            recharge: s.recharge,
+            left,
+        }
     }
-    let amounts = advance(card, soil, r, d, w, row);
-    sums::put(row, sums::RUNOFF_AT, ran);
-    sums::put(row, sums::DRAIN_AT, drained);
-    Answer::Accepted(amounts)
+
+    // A row moved on by an accepted step, but for its sums: the queue is the part of it after life and next count.
+    fn advance(&self, w: Wetting, row: &mut [u32]) -> Amounts
+        requires row_fits { row_ok self.now.card row.old ≡ true }
+        requires wetting { w ≡ wetting_of self.now.card self.now.soil self.now.reading self.now.depth }
+        ensures amounts { result ≡ step_amounts self.now.card self.now.soil self.now.reading self.now.depth (queue_of self.now.card.delays row.old) }
+        ensures row { row.new ≡ row_moved self.now.card self.now.soil (Entry.Reading self.now.reading) self.now.depth row.old }
+    {
+        let end = 2 + (self.card.delays as usize);
+        let amounts = self.turn(w, &mut row[2..end]);
+        row[0] = self.reading.life;
+        row[1] = self.reading.count + 1;
+        amounts
+    }
+
+    // 15, then one accepted step of a row. Nothing is written before 15 is passed.
+    pub fn accept(&self, row: &mut [u32]) -> Answer
+        requires { row_ok self.now.card row.old ≡ true }
+        ensures { AcceptGives self.now.card self.now.soil self.now.reading self.now.depth row.old result row.new }
+    {
+        let w = self.wet();
+        let ran = Sum::Runoff.grown(row, w.runoff);
+        let drained = Sum::Drain.grown(row, w.drain);
+        let room = (ran.0 <= SUM_LIMIT) & (drained.0 <= SUM_LIMIT);
+        if !room {
+            return Err(Refusal::FullSums);
+        }
+        let amounts = self.advance(w, row);
+        Sum::Runoff.put(row, ran);
+        Sum::Drain.put(row, drained);
+        Ok(amounts)
+    }
 }

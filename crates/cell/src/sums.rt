@@ -1,50 +1,68 @@
 // Sums that a row keeps until they are collected, a high and a low number for each.
-ghost use Rattle.std.specs.Prelude.{◌≡◌, ◌+◌, ◌≤◌, ◌<◌, length};
+ghost use Rattle.std.specs.Prelude.{◌≡◌, ◌+◌, ◌≤◌, length};
 ghost use Rattle.cell.specs.Sums.{sum_limit, sum_of, with_sum, emptied};
+ghost use Rattle.cell.specs.Parts.{place_of};
 
-use crate::queue::wide;
 use crate::{Water, ranges};
 
-// The places of the two sums in a row, and the most that one holds.
-pub const RUNOFF_AT: usize = 32;
-
-pub const DRAIN_AT: usize = 34;
-
+// The most that a sum holds.
 pub const SUM_LIMIT: u64 = 1000000000000000000;
 
-// The sum at a place.
-pub fn sum_of(row: &[u32], at: usize) -> Water
-    requires { at < 1000 }
-    ensures { result.0 ≡ sum_of at row.now }
-{
-    let high = wide(ranges::number_at(row, at));
-    let low = wide(ranges::number_at(row, at + 1));
-    Water(high * 4294967296 + low)
+// The two sums of a row.
+#[derive(Clone, Copy)]
+pub enum Sum {
+    Runoff,
+    Drain,
 }
 
-// What the sum at a place comes to with so much more.
-pub fn grown(row: &[u32], at: usize, n: Water) -> Water
-    requires { (at < 1000) × (sum_of at row.now ≤ sum_limit) × (n.0 ≤ sum_limit) }
-    ensures { result.0 ≡ sum_of at row.now + n.0 }
-{
-    let sum = sum_of(row, at);
-    Water(sum.0 + n.0)
-}
+impl Sum {
+    // Where the high number of a sum stands in a row; the low one stands next to it.
+    fn place(self) -> usize
+        ensures { result ≡ place_of self }
+    {
+        match self {
+            Sum::Runoff => 32,
+            Sum::Drain => 34,
+        }
+    }
 
-// Another sum at a place.
-pub fn put(row: &mut [u32], at: usize, n: Water)
-    requires { (at < 1000) × (at + 2 ≤ length row.old) × (n.0 ≤ sum_limit) }
-    ensures { row.new ≡ with_sum at n.0 row.old }
-{
-    row[at] = (n.0 / 4294967296) as u32;
-    row[at + 1] = (n.0 % 4294967296) as u32;
+    // What a row holds of it.
+    #[tactic(auto, unfolding(crate::specs::Sums::sum_of))]
+    pub fn of(self, row: &[u32]) -> Water
+        ensures { result.0 ≡ sum_of (place_of self) row.now }
+    {
+        let at = self.place();
+        let high = u64::from(ranges::number_at(row, at));
+        let low = u64::from(ranges::number_at(row, at + 1));
+        Water(high * 4294967296 + low)
+    }
+
+    // What it comes to with so much more.
+    pub fn grown(self, row: &[u32], n: Water) -> Water
+        requires { (sum_of (place_of self) row.now ≤ sum_limit) × (n.0 ≤ sum_limit) }
+        ensures { result.0 ≡ sum_of (place_of self) row.now + n.0 }
+    {
+        Water(self.of(row).0 + n.0)
+    }
+
+    // Another amount in its place.
+    #[tactic(auto, unfolding(crate::specs::Sums::with_sum))]
+    pub fn put(self, row: &mut [u32], n: Water)
+        requires { (place_of self + 2 ≤ length row.old) × (n.0 ≤ sum_limit) }
+        ensures { row.new ≡ with_sum (place_of self) n.0 row.old }
+    {
+        let at = self.place();
+        row[at] = (n.0 / 4294967296) as u32;
+        row[at + 1] = (n.0 % 4294967296) as u32;
+    }
 }
 
 // Both sums at 0.
+#[tactic(auto, unfolding(crate::specs::Sums::emptied))]
 pub fn empty(row: &mut [u32])
     requires { 36 ≤ length row.old }
     ensures { row.new ≡ emptied row.old }
 {
-    put(row, RUNOFF_AT, Water(0));
-    put(row, DRAIN_AT, Water(0));
+    Sum::Runoff.put(row, Water(0));
+    Sum::Drain.put(row, Water(0));
 }

@@ -5,27 +5,23 @@ use std::io;
 
 // A card, written into a buffer.
 fn write(rt: &impl Print, card: Card, soil: &[i64], buf: &mut [u8]) -> io::Result<()> {
-    let w = text::card::write(card, soil, buf);
-    show::form(
-        rt,
-        b"written: code=# length=#\n",
-        &[w.number as u64, w.len as u64],
-    )?;
-    show::line(rt, buf, w.len)
+    let written = text::card::write(card, soil, buf);
+    show::form(rt, b"written: code=# length=#\n", &show::written(written))?;
+    show::line(rt, buf, written)
 }
 
-// A card, read from a text that stands between two bars, and written again.
+// A card, read from a text that stands between two bars, and written again; a card of zeros where it was refused.
 fn read_into(rt: &impl Print, s: &[u8], soil: &mut [i64]) -> io::Result<()> {
-    let x = text::card::read(s, soil);
+    let read = text::card::read(s, soil);
     print!(rt; "|")?;
     rt.write_all(s)?;
-    show::form(
-        rt,
-        b"|code=# taken=# line=#, ",
-        &[x.number as u64, x.taken as u64, x.line as u64],
-    )?;
+    show::form(rt, b"|code=# taken=# line=#, ", &show::taken(read))?;
+    let card = match read {
+        Ok(read) => read.value,
+        Err(_) => plots::no_card(),
+    };
     let mut buf = [0u8; 300];
-    write(rt, x.card, soil, &mut buf)
+    write(rt, card, soil, &mut buf)
 }
 
 // A card, read from a text, with room for one plot.
@@ -96,7 +92,7 @@ fn delays(rt: &impl Print) -> io::Result<()> {
 
 // The example's card for so many plots and with so many delays, its soil numbers with this leak, written into 103 bytes.
 fn put(rt: &impl Print, cells: u32, delays: u32, leak: i64) -> io::Result<()> {
-    show::form(rt, b"cells=# delays=#", &[cells as u64, delays as u64])?;
+    show::form(rt, b"cells=# delays=#", &[cells, delays].map(u64::from))?;
     show::signed(rt, " leak=", leak)?;
     print!(rt; ", room for 103 bytes, ")?;
     let soil = [10000000, 1500000, 200, leak, 80];

@@ -8,7 +8,7 @@ fn two(rt: &impl Print, cells: u32, delays: u32, first: u32, second: u32) -> io:
     show::form(
         rt,
         b"cells=# delays=# depth=# depth=#",
-        &[cells as u64, delays as u64, first as u64, second as u64],
+        &[cells, delays, first, second].map(u64::from),
     )?;
     let depths = plots::depths(first, second);
     let card = Card {
@@ -27,7 +27,7 @@ fn many(rt: &impl Print, delays: u32) -> io::Result<()> {
     show::form(
         rt,
         b"30 depths, slot 1 at 5, slot 30 at 2000000, delays=#",
-        &[delays as u64],
+        &[u64::from(delays)],
     )?;
     let depths = plots::full_depths();
     let card = Card {

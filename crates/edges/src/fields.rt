@@ -15,14 +15,7 @@ fn day(
     show::form(
         rt,
         b"rain=# irrig=# septic=# etmin=# pet=# amc=#",
-        &[
-            rain as u64,
-            irrig as u64,
-            septic as u64,
-            etmin as u64,
-            pet as u64,
-            amc as u64,
-        ],
+        &[rain, irrig, septic, etmin, pet, amc].map(u64::from),
     )?;
     let mut r = plots::reading();
     r.rain = rain;

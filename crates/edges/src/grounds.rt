@@ -4,7 +4,7 @@ use std::io;
 
 // The most rain that is accepted, on ground of this wetness, given to the example's plot with this curve number.
 fn storm(rt: &impl Print, cn: i64, amc: u32) -> io::Result<()> {
-    show::form(rt, b"rain=600000 amc=#", &[amc as u64])?;
+    show::form(rt, b"rain=600000 amc=#", &[u64::from(amc)])?;
     show::signed(rt, " cn=", cn)?;
     let soil = [10000000, 1500000, 200, 100000, cn];
     let mut r = plots::reading();

@@ -5,7 +5,7 @@ use std::io;
 // The example's reading with this rain, at the head of these bits.
 fn at(rt: &impl Print, bits: u32, rain: u32) -> io::Result<()> {
     print!(rt; "head={bits:08x}")?;
-    show::form(rt, b" rain=#", &[rain as u64])?;
+    show::form(rt, b" rain=#", &[u64::from(rain)])?;
     let mut r = plots::reading_at(bits);
     r.rain = rain;
     show::reading(rt, r)

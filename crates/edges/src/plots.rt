@@ -92,3 +92,23 @@ pub fn reading() -> Reading
 {
     reading_at(0x410c_0000)
 }
+
+// A card and a reading of zeros, which a refused reader stands for.
+pub fn no_card() -> Card {
+    Card {
+        cells: 0,
+        share: 0,
+        ..card_without_delays()
+    }
+}
+
+pub fn no_reading() -> Reading {
+    Reading {
+        rain: 0,
+        septic: 0,
+        etmin: 0,
+        pet: 0,
+        amc: 0,
+        ..reading_at(0)
+    }
+}

@@ -4,7 +4,7 @@ use std::io;
 
 // The example's reading with this rain and etmin, at the head of these bits.
 fn storm(rt: &impl Print, rain: u32, etmin: u32, bits: u32) -> io::Result<()> {
-    show::form(rt, b"rain=# etmin=# head=", &[rain as u64, etmin as u64])?;
+    show::form(rt, b"rain=# etmin=# head=", &[rain, etmin].map(u64::from))?;
     print!(rt; "{bits:08x}")?;
     let mut r = plots::reading_at(bits);
     r.rain = rain;

@@ -6,30 +6,31 @@ use std::io;
 // The line of a reading.
 fn again(rt: &impl Print, r: Reading) -> io::Result<()> {
     let mut buf = [0u8; 300];
-    let w = text::reading::write(r, &mut buf);
-    show::line(rt, &buf, w.len)
+    let written = text::reading::write(r, &mut buf);
+    show::line(rt, &buf, written)
 }
 
-// A reading, read from a text that stands between two bars, and its line.
+// A reading, read from a text that stands between two bars, and its line; a reading of zeros where it was refused.
 fn read(rt: &impl Print, s: &[u8]) -> io::Result<()> {
-    let x = text::reading::read(s);
+    let read = text::reading::read(s);
     print!(rt; "|")?;
     rt.write_all(s)?;
-    show::form(
-        rt,
-        b"|code=# taken=# line=#\n  ",
-        &[x.number as u64, x.taken as u64, x.line as u64],
-    )?;
-    again(rt, x.reading)
+    show::form(rt, b"|code=# taken=# line=#\n  ", &show::taken(read))?;
+    let r = match read {
+        Ok(read) => read.value,
+        Err(_) => plots::no_reading(),
+    };
+    again(rt, r)
 }
 
 // The example's reading, written into a buffer of zeros.
 fn write(rt: &impl Print, buf: &mut [u8]) -> io::Result<()> {
-    let w = text::reading::write(plots::reading(), buf);
+    let written = text::reading::write(plots::reading(), buf);
+    let [number, len] = show::written(written);
     show::form(
         rt,
         b"a reading, written into # bytes: code=# length=#\n",
-        &[buf.len() as u64, w.number as u64, w.len as u64],
+        &[buf.len() as u64, number, len],
     )
 }
 

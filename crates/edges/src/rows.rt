@@ -12,7 +12,7 @@ fn waiting(rt: &impl Print, card: Card, slot: usize, water: u32) -> io::Result<(
     show::form(
         rt,
         b"slot # of # at #",
-        &[slot as u64, card.delays as u64, water as u64],
+        &[slot as u64, u64::from(card.delays), u64::from(water)],
     )?;
     let soil = plots::soil();
     let mut rows = [0u32; 36];
@@ -25,7 +25,7 @@ fn turn(rt: &impl Print, row_life: u32, next: u32, life: u32, count: u32) -> io:
     show::form(
         rt,
         b"row (#,#), reading (#,#)",
-        &[row_life as u64, next as u64, life as u64, count as u64],
+        &[row_life, next, life, count].map(u64::from),
     )?;
     let soil = plots::soil();
     let mut rows = [0u32; 36];

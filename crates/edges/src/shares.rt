@@ -12,7 +12,7 @@ fn card(share: u32) -> Card {
 
 // The example's reading with this rain.
 fn storm(rt: &impl Print, share: u32, rain: u32) -> io::Result<()> {
-    show::form(rt, b"share=# rain=#", &[share as u64, rain as u64])?;
+    show::form(rt, b"share=# rain=#", &[share, rain].map(u64::from))?;
     let soil = plots::soil();
     let mut rows = [0u32; 36];
     let mut r = plots::reading();
@@ -22,7 +22,7 @@ fn storm(rt: &impl Print, share: u32, rain: u32) -> io::Result<()> {
 
 // A void with water in slot 1, and then clearing the row.
 fn stored(rt: &impl Print, share: u32) -> io::Result<()> {
-    show::form(rt, b"share=# slot 1 at 7, void", &[share as u64])?;
+    show::form(rt, b"share=# slot 1 at 7, void", &[u64::from(share)])?;
     let soil = plots::soil();
     let mut rows = [0u32; 36];
     rows[2] = 7;
@@ -33,19 +33,21 @@ fn stored(rt: &impl Print, share: u32) -> io::Result<()> {
     };
     show::entry(rt, card(share), &soil, &mut rows, Entry::Void(first))?;
     rows[3] = 7;
-    let number = site::clear(card(share), &mut rows);
-    show::form(rt, b"clearing: code=#\n", &[number as u64])?;
+    let number = cell::number_of(site::clear(card(share), &mut rows));
+    show::form(rt, b"clearing: code=#\n", &[u64::from(number)])?;
     show::row(rt, &rows, 2)
 }
 
 // What reading a card from this text gives.
 fn read(rt: &impl Print, s: &[u8]) -> io::Result<()> {
     let mut soil = [0i64; 5];
-    let x = text::card::read(s, &mut soil);
+    let read = text::card::read(s, &mut soil);
+    let [number, _, line] = show::taken(read);
+    let share = read.map_or(0, |read| read.value.share);
     show::form(
         rt,
         b"  read: code=# line=# share=#\n",
-        &[x.number as u64, x.line as u64, x.card.share as u64],
+        &[number, line, u64::from(share)],
     )
 }
 
@@ -53,8 +55,8 @@ fn read(rt: &impl Print, s: &[u8]) -> io::Result<()> {
 fn text(rt: &impl Print, share: u32) -> io::Result<()> {
     let soil = plots::soil();
     let mut buf = [0u8; 120];
-    let w = text::card::write(card(share), &soil, &mut buf);
-    show::line(rt, &buf, w.len)?;
+    let written = text::card::write(card(share), &soil, &mut buf);
+    show::line(rt, &buf, written)?;
     read(rt, &buf)
 }
 

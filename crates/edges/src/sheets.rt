@@ -7,8 +7,8 @@ use std::io;
 // The line of a sheet.
 fn sheet(rt: &impl Print, sheet: Sheet) -> io::Result<()> {
     let mut buf = [0u8; 300];
-    let w = text::print::sheet(sheet, &mut buf);
-    show::line(rt, &buf, w.len)
+    let written = text::print::sheet(sheet, &mut buf);
+    show::line(rt, &buf, written)
 }
 
 // An answer, added to a sheet.
@@ -18,7 +18,7 @@ fn add(rt: &impl Print, before: Sheet, answer: Answer) -> io::Result<()> {
     print!(rt; "  answer: ")?;
     show::answer(rt, 0, answer)?;
     let added = before.add(answer);
-    show::form(rt, b"  added: code=# ", &[added.number as u64])?;
+    show::form(rt, b"  added: code=# ", &[u64::from(added.number)])?;
     sheet(rt, added.sheet)
 }
 
@@ -27,30 +27,18 @@ fn sheet_of(steps: u64, inflow: u64, recharge: i64) -> Sheet {
     Sheet {
         steps,
         inflow: Water(inflow),
-        runoff: Water(0),
-        etvad: Water(0),
-        etstor: Water(0),
-        etsat: Water(0),
-        drain: Water(0),
-        release: Water(0),
-        stored: Water(0),
         recharge: Net(recharge),
+        ..Sheet::default()
     }
 }
 
 // An accepted answer whose other amounts are 0.
 fn step_of(inflow: u64, recharge: i64, left: u64) -> Answer {
-    Answer::Accepted(Amounts {
+    Ok(Amounts {
         inflow: Water(inflow),
-        runoff: Water(0),
-        etvad: Water(0),
-        etstor: Water(0),
-        etsat: Water(0),
-        drain: Water(0),
-        release: Water(0),
-        stored: Water(0),
         recharge: Net(recharge),
         left: Water(left),
+        ..Amounts::default()
     })
 }
 
@@ -72,7 +60,7 @@ fn next(
 }
 
 pub fn cases(rt: &impl Print) -> io::Result<()> {
-    add(rt, sheet_of(3, 500, -200), Answer::Refused(Refusal::Old))?;
+    add(rt, sheet_of(3, 500, -200), Err(Refusal::Old))?;
     add(rt, Sheet::new(), step_of(100, -40, 60))?;
     // Amounts: 30,000,000,000 is the most, `left` included.
     next(rt, 0, 0, 0, 30000000000, 0, 0)?;

@@ -1,38 +1,42 @@
 // What is printed of a case: its numbers, what came back, and the row in use as it then stands.
-ghost use Rattle.std.specs.Prelude.{◌≤◌, length};
-
 use crate::plots;
 use cell::{Answer, Card, Entry, Reading};
 use std::io;
+use text::{Read, Unread, Unwritten};
 
-// The first len bytes of a text.
-pub fn line(rt: &impl Print, text: &[u8], len: usize) -> io::Result<()> {
-    if len <= text.len() {
-        rt.write_all(&text[..len])?;
+// What was written at the start of a buffer; nothing where it was refused.
+pub fn line(rt: &impl Print, buf: &[u8], written: Result<usize, Unwritten>) -> io::Result<()> {
+    if let Some(text) = buf.get(..written.unwrap_or(0)) {
+        rt.write_all(text)?;
     }
     Ok(())
 }
 
-// One byte of a form: the next number in place of '#', else the byte itself. Hands back which number is next then.
-fn mark(rt: &impl Print, byte: u8, numbers: &[u64], next: usize) -> io::Result<usize> {
-    if byte != b'#' {
-        let one = [byte];
-        rt.write_all(&one)?;
-        return Ok(next);
+// The number of what was written, and its length.
+pub fn written(written: Result<usize, Unwritten>) -> [u64; 2] {
+    match written {
+        Ok(len) => [0, len as u64],
+        Err(why) => [u64::from(u32::from(why)), 0],
     }
-    if next < numbers.len() {
-        let number = numbers[next];
-        print!(rt; "{number}")?;
-        return Ok(next + 1);
+}
+
+// The number of what was read, the bytes taken, and the malformed line.
+pub fn taken<T: Copy>(read: Result<Read<T>, Unread>) -> [u64; 3] {
+    match read {
+        Ok(Read { taken, .. }) => [0, taken as u64, 0],
+        Err(why) => [u64::from(u32::from(why)), 0, why.line() as u64],
     }
-    Ok(next)
 }
 
 // A form, with the numbers in place of its marks.
 pub fn form(rt: &impl Print, marked: &[u8], numbers: &[u64]) -> io::Result<()> {
-    let mut next = 0;
+    let mut numbers = numbers.iter();
     for byte in marked {
-        next = mark(rt, *byte, numbers, next)?;
+        if *byte != b'#' {
+            rt.write_all(&[*byte])?;
+        } else if let Some(number) = numbers.next() {
+            print!(rt; "{number}")?;
+        }
     }
     Ok(())
 }
@@ -45,35 +49,13 @@ pub fn signed(rt: &impl Print, name: &str, number: i64) -> io::Result<()> {
 // The line of an answer.
 pub fn answer(rt: &impl Print, cell: u32, answer: Answer) -> io::Result<()> {
     let mut buf = [0u8; 300];
-    let w = text::print::answer(cell, answer, &mut buf);
-    line(rt, &buf, w.len)
+    let written = text::print::answer(cell, answer, &mut buf);
+    line(rt, &buf, written)
 }
 
 // The water in one slot.
 fn slot(rt: &impl Print, water: u32) -> io::Result<()> {
-    form(rt, b" slot=#", &[water as u64])
-}
-
-// The slots of a row up to this place.
-fn slots(rt: &impl Print, row: &[u32], end: usize) -> io::Result<()>
-    requires { end ≤ length row.now }
-{
-    for i in 2..end {
-        slot(rt, row[i])?;
-    }
-    Ok(())
-}
-
-// How many of so many row numbers are in use: life, next count and a slot for each delay, 30 slots at the most.
-fn in_use(len: usize, delays: u32) -> usize
-    ensures { result ≤ len }
-{
-    let used = if delays <= 30 {
-        2 + delays as usize
-    } else {
-        32
-    };
-    if len < used { len } else { used }
+    form(rt, b" slot=#", &[u64::from(water)])
 }
 
 // A row's life and next count.
@@ -81,15 +63,17 @@ fn turn(rt: &impl Print, life: u32, next: u32) -> io::Result<()> {
     form(
         rt,
         b"  row after: life=# next=#",
-        &[life as u64, next as u64],
+        &[life, next].map(u64::from),
     )
 }
 
-// The life, the next count and the slots in use of the row that stands first.
+// The life, the next count and the slots in use of the row that stands first: one for each delay, 30 at the most.
 pub fn row(rt: &impl Print, rows: &[u32], delays: u32) -> io::Result<()> {
-    if 2 <= rows.len() {
-        turn(rt, rows[0], rows[1])?;
-        slots(rt, rows, in_use(rows.len(), delays))?;
+    if let [life, next, slots @ ..] = rows {
+        turn(rt, *life, *next)?;
+        for water in slots.iter().take(delays.min(30) as usize) {
+            slot(rt, *water)?;
+        }
         println!(rt)?;
     }
     Ok(())

@@ -11,8 +11,8 @@ fn over(rt: &impl Print, cells: u32, cell: u32, soil: &[i64], rows: &mut [u32]) 
         rt,
         b"cells=# cell=#, soil numbers #, row numbers #",
         &[
-            cells as u64,
-            cell as u64,
+            u64::from(cells),
+            u64::from(cell),
             soil.len() as u64,
             rows.len() as u64,
         ],
@@ -39,7 +39,7 @@ fn beside(rt: &impl Print, cell: u32, top: i64, water: u32) -> io::Result<()> {
     show::form(
         rt,
         b"cells=2 cell=#, second plot: slot=#",
-        &[cell as u64, water as u64],
+        &[cell, water].map(u64::from),
     )?;
     show::signed(rt, " top=", top)?;
     let soil = [
@@ -55,7 +55,7 @@ fn beside(rt: &impl Print, cell: u32, top: i64, water: u32) -> io::Result<()> {
 
 // A dry reading for this cell of 256 plots whose soil numbers are all 1; the last plot's row is printed.
 fn largest(rt: &impl Print, cell: u32) -> io::Result<()> {
-    show::form(rt, b"cells=256 cell=#: ", &[cell as u64])?;
+    show::form(rt, b"cells=256 cell=#: ", &[u64::from(cell)])?;
     let soil = [1i64; 1280];
     let mut rows = [0u32; 9216];
     let mut r = plots::reading_at(0xf149_f2ca);
@@ -70,11 +70,11 @@ fn largest(rt: &impl Print, cell: u32) -> io::Result<()> {
 
 // Clears these rows under so many delays, and prints the first.
 fn cleared(rt: &impl Print, delays: u32, rows: &mut [u32]) -> io::Result<()> {
-    let number = site::clear(plots::card_of(1, delays), rows);
+    let number = cell::number_of(site::clear(plots::card_of(1, delays), rows));
     show::form(
         rt,
         b"clearing, row numbers #, delays=#: code=#\n",
-        &[rows.len() as u64, delays as u64, number as u64],
+        &[rows.len() as u64, u64::from(delays), u64::from(number)],
     )?;
     show::row(rt, rows, 2)
 }

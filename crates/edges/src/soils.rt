@@ -12,7 +12,7 @@ fn plot(
     cn: i64,
     rain: u32,
 ) -> io::Result<()> {
-    show::form(rt, b"rain=#", &[rain as u64])?;
+    show::form(rt, b"rain=#", &[u64::from(rain)])?;
     show::signed(rt, " top=", top)?;
     show::signed(rt, " etdepth=", etdepth)?;
     show::signed(rt, " vadpor=", vadpor)?;

@@ -3,29 +3,26 @@ use crate::{plots, show};
 use cell::{Card, Entry, Notice};
 use std::io;
 
+// The first void of a life, of the plot that stands first.
+const FIRST: Notice = Notice {
+    cell: 0,
+    life: 0,
+    count: 0,
+};
+
 // A void of this cell, life and count, given to a site.
 fn given(rt: &impl Print, card: Card, soil: &[i64], rows: &mut [u32], n: Notice) -> io::Result<()> {
     show::form(
         rt,
         b"void cell=# life=# count=#",
-        &[n.cell as u64, n.life as u64, n.count as u64],
+        &[n.cell, n.life, n.count].map(u64::from),
     )?;
     show::entry(rt, card, soil, rows, Entry::Void(n))
 }
 
 // The first void of a life, given to the plot that stands first.
 fn first(rt: &impl Print, card: Card, soil: &[i64], rows: &mut [u32]) -> io::Result<()> {
-    given(
-        rt,
-        card,
-        soil,
-        rows,
-        Notice {
-            cell: 0,
-            life: 0,
-            count: 0,
-        },
-    )
+    given(rt, card, soil, rows, FIRST)
 }
 
 // A row with water in its first slots, under a card.
@@ -33,7 +30,7 @@ fn waiting(rt: &impl Print, card: Card, first_slot: u32, second_slot: u32) -> io
     show::form(
         rt,
         b"# delays, slots # and #, ",
-        &[card.delays as u64, first_slot as u64, second_slot as u64],
+        &[card.delays, first_slot, second_slot].map(u64::from),
     )?;
     let soil = plots::soil();
     let mut rows = [0u32; 36];
@@ -51,7 +48,7 @@ fn deep(rt: &impl Print, first_slot: u32) -> io::Result<()> {
         depths,
         share: 20,
     };
-    show::form(rt, b"30 delays, slot 1 at #, ", &[first_slot as u64])?;
+    show::form(rt, b"30 delays, slot 1 at #, ", &[u64::from(first_slot)])?;
     let soil = plots::soil();
     let mut rows = [0u32; 36];
     rows[2] = first_slot;
@@ -61,7 +58,7 @@ fn deep(rt: &impl Print, first_slot: u32) -> io::Result<()> {
 
 // A void of this life and count, on a row of that life and next count.
 fn turn(rt: &impl Print, row_life: u32, next: u32, life: u32, count: u32) -> io::Result<()> {
-    show::form(rt, b"row (#,#), ", &[row_life as u64, next as u64])?;
+    show::form(rt, b"row (#,#), ", &[row_life, next].map(u64::from))?;
     let soil = plots::soil();
     let mut rows = [0u32; 36];
     rows[0] = row_life;
@@ -127,11 +124,7 @@ fn another_plot(rt: &impl Print) -> io::Result<()> {
         plots::card(),
         &soil,
         &mut rows,
-        Notice {
-            cell: 1,
-            life: 0,
-            count: 0,
-        },
+        Notice { cell: 1, ..FIRST },
     )
 }
 
@@ -161,30 +154,30 @@ fn frozen(rt: &impl Print) -> io::Result<()> {
     show::step(rt, card, &soil, &mut rows, later)
 }
 
-// A void, read from a text that stands between two bars, and its line.
+// A void, read from a text that stands between two bars, and its line; a void of zeros where it was refused.
 fn read(rt: &impl Print, s: &[u8]) -> io::Result<()> {
-    let x = text::void::read(s);
+    let read = text::void::read(s);
+    let n = match read {
+        Ok(read) => read.value,
+        Err(_) => FIRST,
+    };
     let mut buf = [0u8; 60];
-    let w = text::void::write(x.notice, &mut buf);
+    let written = text::void::write(n, &mut buf);
     print!(rt; "|")?;
     rt.write_all(s)?;
-    show::form(
-        rt,
-        b"|code=# taken=# line=#\n  ",
-        &[x.number as u64, x.taken as u64, x.line as u64],
-    )?;
-    show::line(rt, &buf, w.len)
+    show::form(rt, b"|code=# taken=# line=#\n  ", &show::taken(read))?;
+    show::line(rt, &buf, written)
 }
 
 // An entry, read from such a text: whether it is refused, and its bytes.
 fn entry(rt: &impl Print, s: &[u8]) -> io::Result<()> {
-    let x = text::entry::read(s);
+    let read = text::entry::read(s);
     print!(rt; "|")?;
     rt.write_all(s)?;
     show::form(
         rt,
         b"|an entry: code=# taken=# line=#\n",
-        &[x.number as u64, x.taken as u64, x.line as u64],
+        &show::taken(read),
     )
 }
 
@@ -195,11 +188,11 @@ fn write(rt: &impl Print, buf: &mut [u8]) -> io::Result<()> {
         life: 4294967295,
         count: 4294967295,
     };
-    let w = text::void::write(n, buf);
+    let [number, len] = show::written(text::void::write(n, buf));
     show::form(
         rt,
         b"a void, written into # bytes: code=# length=#\n",
-        &[buf.len() as u64, w.number as u64, w.len as u64],
+        &[buf.len() as u64, number, len],
     )
 }
 

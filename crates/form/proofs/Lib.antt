@@ -1,5 +1,8 @@
 -- What belongs to no one function.
 pub mod Digits
+pub mod Marked
+pub mod Turns
 pub mod Rows
-pub mod PutRows
+pub mod KeyTurns
+pub mod Values
 pub mod Settled

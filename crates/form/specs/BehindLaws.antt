@@ -1,7 +1,6 @@
 -- A reader looks at nothing behind its lines: two texts that show the same lines from a place on are read alike there. Assumes nothing.
-use Rattle.std.specs.Prelude.{◌≡◌, refl, Bool, true, false, cond, List, [], ◌∷◌, ◌++◌, ℕ, zero, suc, ◌+◌, ◌-◌, ◌*◌, ◌≤◌, ◌<◌, eqb, ltb, ℤ, length, take, drop}
-use Rattle.std.proofs.Math.Path.{sym, ap}
-use Rattle.std.proofs.Common.{◌∙◌, append_assoc, zero-add, arith, eqb-true, ltb-true, take-append-drop}
+use Rattle.std.specs.Prelude.{Option, Some, None, ◌≡◌, refl, Bool, true, false, cond, List, [], ◌∷◌, ◌++◌, ℕ, zero, suc, ◌+◌, ◌-◌, ◌*◌, ◌≤◌, ◌<◌, eqb, ltb, ℤ, length, take, drop}
+use Rattle.std.proofs.Common.{ap, sym, ◌∙◌, append_assoc, zero-add, arith, eqb-true, ltb-true, take-append-drop}
 use Rattle.std.proofs.lemmas.List.{append_cancel_left}
 use Rattle.form.specs.Dec.{num_at, num_start, num_go, digit_of}
 use Rattle.form.specs.Hex.{hex_at, hex_go, hex_of}
@@ -13,8 +12,6 @@ use Rattle.form.specs.Ends.{line_ends, first_lines, first_line}
 use Rattle.form.specs.EndLaws.{ends_value, ends_form, ends_rows, ends_key, mark_end}
 use Rattle.form.specs.Keys.{key_at, key_text}
 use Rattle.form.specs.KeyLaws.{KeyRead, key_one}
-use Rattle.form.specs.declared.value.Val.{Val}
-use Rattle.form.specs.declared.value.Val.TheVariants.{Got, Not}
 
 -- ---- the first lines of a text
 
@@ -122,7 +119,7 @@ val_alike c s s' at same = go (eqb (byte_at s' at) 45) refl
     go false e = rw (byte_alike s s' at same, e, num_alike s s' at same 4294967295, num_alike s s' at same 9223372036854775807, hex_alike s s' at same)
 
 -- behind a value the first line goes on
-val_goes_on : (c : ℕ) (s s' : List ℕ) (at : ℕ) (z : ℤ) (n : ℕ) → is_mark c ≡ true → first_line (drop at s) ≡ first_line (drop at s') → val_at c s at ≡ Got z n
+val_goes_on : (c : ℕ) (s s' : List ℕ) (at : ℕ) (z : ℤ) (n : ℕ) → is_mark c ≡ true → first_line (drop at s) ≡ first_line (drop at s') → val_at c s at ≡ Some (z, n)
     → first_line (drop n s) ≡ first_line (drop n s')
 val_goes_on c s s' at z n m same e =
     lines_next 1 s s' at n (val_text c z) (val_one c s at z n m e).text (val_one c s' at z n m (sym (val_alike c s s' at same) ∙ e)).text
@@ -158,9 +155,9 @@ form_alike (c ∷ f) s s' at b o same = go (is_mark c) refl (form_alike f s s')
     b2 : all_bytes f ≡ true
     b2 = and_2 (ltb c 256) (all_bytes f) b
 
-    by_val : (v : Val) → val_at c s at ≡ v → is_mark c ≡ true → Ih → with_val v (λ n. form_at f s n) ≡ with_val v (λ n. form_at f s' n)
-    by_val (Got z n) e m ih = ap (push z) (ih n b2 (rw (mark_end c m) at o) (val_goes_on c s s' at z n m same e))
-    by_val Not e m ih = refl
+    by_val : (v : Option (ℤ × ℕ)) → val_at c s at ≡ v → is_mark c ≡ true → Ih → with_val v (λ n. form_at f s n) ≡ with_val v (λ n. form_at f s' n)
+    by_val (Some (z, n)) e m ih = ap (push z) (ih n b2 (rw (mark_end c m) at o) (val_goes_on c s s' at z n m same e))
+    by_val None e m ih = refl
 
     by_lit : byte_at s at ≡ c → (x : Bool) → eqb c 10 ≡ x → Ih → form_at f s (suc at) ≡ form_at f s' (suc at)
     by_lit e true x ih = rw (no_bytes f (rw x at o))

@@ -1,13 +1,10 @@
 -- A form is a line's fixed bytes with a mark for each value: '#' (35) a decimal that fits 32 bits, '$' (36) a signed decimal that fits 64 bits, '%' (37) eight
 -- hex digits. One form says both what reading a line finds and what its text is. Definitions only.
-use Rattle.std.specs.Prelude.{ℕ, zero, suc, ◌≤◌, List, [], ◌∷◌, ◌++◌, Bool, true, false, cond, ◌&&◌, drop, ltb, eqb, ℤ, pos, negsuc, nat_abs}
+use Rattle.std.specs.Prelude.{Option, Some, None, ℕ, zero, suc, List, [], ◌∷◌, ◌++◌, Bool, true, false, cond, ◌&&◌, drop, ltb, eqb, ℤ, pos, negsuc, nat_abs}
 use Rattle.form.specs.Dec.{dec, num_at}
 use Rattle.form.specs.Hex.{hex, hex_at}
-use Rattle.form.specs.declared.decimal.Num.{Num}
-use Rattle.form.specs.declared.decimal.Num.TheVariants.{Value, Bad}
-use Rattle.form.specs.declared.value.Val.{Val}
-use Rattle.form.specs.declared.value.Val.TheVariants.{Got, Not}
-use Rattle.form.specs.declared.line.Taken.{Taken}
+use Rattle.form.specs.declared.value.Mark.{Mark}
+use Rattle.form.specs.declared.value.Mark.TheVariants.{Word, Signed, Hex}
 
 -- the byte at a place; 256 past the end
 abbrev pub head_or : List ℕ → ℕ
@@ -17,22 +14,18 @@ head_or (c ∷ t) = c
 unfoldable pub byte_at : List ℕ → ℕ → ℕ
 byte_at s at = head_or (drop at s)
 
-abbrev pub pos_of : Num → Val
-pos_of (Value v n) = Got (pos v) n
-pos_of Bad = Not
+abbrev pub pos_of : Option (ℕ × ℕ) → Option (ℤ × ℕ)
+pos_of (Some (v, n)) = Some (pos v, n)
+pos_of None = None
 
 -- there is no -0
-abbrev pub neg_of : Num → Val
-neg_of (Value zero n) = Not
-neg_of (Value (suc v) n) = Got (negsuc v) n
-neg_of Bad = Not
-
-abbrev pub AtMost : ℕ → Num → Type 0
-AtMost m (Value v n) = v ≤ m
-AtMost m Bad = Unit {0}
+abbrev pub neg_of : Option (ℕ × ℕ) → Option (ℤ × ℕ)
+neg_of (Some (zero, n)) = None
+neg_of (Some (suc v, n)) = Some (negsuc v, n)
+neg_of None = None
 
 -- the value with the mark c that starts at a place
-unfoldable pub val_at : ℕ → List ℕ → ℕ → Val
+unfoldable pub val_at : ℕ → List ℕ → ℕ → Option (ℤ × ℕ)
 val_at c s at =
     cond (eqb c 35) (pos_of (num_at 4294967295 s at))
     (cond (eqb c 36)
@@ -50,6 +43,11 @@ val_text c z = cond (eqb c 37) (hex 8 (nat_abs z)) (signed_text z)
 abbrev pub is_mark : ℕ → Bool
 is_mark c = cond (ltb c 35) false (ltb c 38)
 
+abbrev pub byte_of : Mark → ℕ
+byte_of Word = 35
+byte_of Signed = 36
+byte_of Hex = 37
+
 -- what reading a form finds: whether all of it stands there, the place after it, and the values
 pub record Out : Type 0 where
   pub ok : Bool
@@ -62,9 +60,9 @@ push z o = record { ok = o.ok; next = o.next; vals = z ∷ o.vals }
 abbrev pub failed : Out
 failed = record { ok = false; next = 0; vals = [] }
 
-abbrev pub with_val : Val → (ℕ → Out) → Out
-with_val (Got z n) k = push z (k n)
-with_val Not k = failed
+abbrev pub with_val : Option (ℤ × ℕ) → (ℕ → Out) → Out
+with_val (Some (z, n)) k = push z (k n)
+with_val None k = failed
 
 unfoldable pub form_at : List ℕ → List ℕ → ℕ → Out
 form_at [] s at = record { ok = true; next = at; vals = [] }
@@ -74,8 +72,9 @@ form_at (c ∷ f) s at =
     let b = cond (eqb (byte_at s at) c) r failed in
     cond (is_mark c) a b
 
-abbrev pub taken_of : Out → Taken
-taken_of o = record { ok = o.ok; next = o.next }
+-- the place after a form, where it stands
+abbrev pub taken_of : Out → Option ℕ
+taken_of o = cond o.ok (Some o.next) None
 
 -- how many values a form has
 abbrev pub marks : List ℕ → ℕ

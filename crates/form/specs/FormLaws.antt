@@ -1,20 +1,16 @@
 -- Laws of forms: a form's text is read back, and what is read is the form's one text. Assumes nothing.
-use Rattle.std.specs.Prelude.{◌≡◌, refl, List, [], ◌∷◌, ◌++◌, map, Bool, true, false, cond, ◌&&◌, ℕ, zero, suc, ◌+◌, ◌-◌, ◌≤◌, ◌<◌, ◌^◌, length, get_or, take, drop, ℤ, pos, negsuc, nat_abs, ltb, eqb}
+use Rattle.std.specs.Prelude.{Option, Some, None, ◌≡◌, refl, List, [], ◌∷◌, ◌++◌, map, Bool, true, false, cond, ◌&&◌, ℕ, zero, suc, ◌+◌, ◌-◌, ◌≤◌, ◌<◌, ◌^◌, length, get_or, take, drop, ℤ, pos, negsuc, nat_abs, ltb, eqb}
 use Rattle.std.proofs.Common.{sym, ap, ◌∙◌, append_assoc, append-nil, add-zero, add-suc, suc-add, add_assoc, add-one, arith, length-append, length-drop, drop_of_length-le, take-add, drop-cons, take-suc, lt-ltb, eq-eqb, ne_eqb, ltb-true, ltb-false, eqb-true, SFits}
 use Rattle.std.proofs.lemmas.Bool.{false≢true, eqb-false}
 use Rattle.std.proofs.Math.Seq.{append_snoc, drop-append_seam, drop-append-add}
 use Rattle.form.specs.Dec.{dec, num_at, num_start, digit_of}
-use Rattle.form.specs.DecLaws.{num_back, num_one, num_in, stops, len_20}
+use Rattle.form.specs.DecLaws.{some_pair, num_back, num_one, num_in, stops, len_20}
 use Rattle.form.specs.Hex.{hex, hex_at}
 use Rattle.form.specs.HexLaws.{hex_back, hex_one, hex_len}
 use Rattle.form.specs.Signed.{is_neg, size_fits}
 use Rattle.form.specs.Words.{word_of}
 use Rattle.std.specs.Int.{w64}
 use Rattle.form.specs.Form.{byte_at, pos_of, neg_of, val_at, val_text, is_mark, Out, push, failed, with_val, form_at, form_text, head_or, marks, head_z, tail_z, ok_val, fits}
-use Rattle.form.specs.declared.decimal.Num.{Num}
-use Rattle.form.specs.declared.decimal.Num.TheVariants.{Value, Bad}
-use Rattle.form.specs.declared.value.Val.{Val}
-use Rattle.form.specs.declared.value.Val.TheVariants.{Got, Not}
 
 -- what was read at `at` up to n is the text of the value
 pub record ValRead (c : ℕ) (z : ℤ) (s : List ℕ) (at n : ℕ) : Type 0 where
@@ -29,13 +25,13 @@ take_to s at n x h e =
     ap (λ (j : ℕ). take j s) k ∙ take-add at (n - at) s ∙ ap (λ (y : List ℕ). take at s ++ y) e
 
 -- a decimal and a hex number that stand at a place
-dec_here : (m : ℕ) (s : List ℕ) (at w n : ℕ) → 9 ≤ m → num_at m s at ≡ Value w n → (take n s ≡ take at s ++ dec w) × (at ≤ n) × (n ≤ length s) × (w ≤ m)
+dec_here : (m : ℕ) (s : List ℕ) (at w n : ℕ) → 9 ≤ m → num_at m s at ≡ Some (w, n) → (take n s ≡ take at s ++ dec w) × (at ≤ n) × (n ≤ length s) × (w ≤ m)
 unfolding num_at
 dec_here m s at w n h e =
     let r = num_one (drop at s) m at w n h e in
     (take_to s at n (dec w) r.low r.text, r.low, omega (arith, r.room, length-drop at s, num_in (drop at s) m at w n e), r.small)
 
-hex_here : (s : List ℕ) (at w n : ℕ) → hex_at s at ≡ Value w n → (take n s ≡ take at s ++ hex 8 w) × (at ≤ n) × (n ≤ length s) × (w < 4294967296)
+hex_here : (s : List ℕ) (at w n : ℕ) → hex_at s at ≡ Some (w, n) → (take n s ≡ take at s ++ hex 8 w) × (at ≤ n) × (n ≤ length s) × (w < 4294967296)
 unfolding hex_at hex
 hex_here s at w n e =
     let r = hex_one (drop at s) 8 0 0 at w n (omega arith) e in
@@ -58,48 +54,54 @@ byte_is s at b l e = go (ltb at (length s)) refl
     go true f = let h : at < length s = ltb-true at (length s) f in (h, rw (drop-cons s at 0 h) at e)
     go false f = absurd (let h : 256 ≡ b = rw (drop_of_length-le s (ltb-false at (length s) f)) at e in omega arith)
 
+-- the byte past the end, and the byte that a slice's `get` finds
+pub byte_end : (s : List ℕ) (i : ℕ) → length s ≤ i → byte_at s i ≡ 256
+unfolding byte_at
+byte_end s i h = rw (drop_of_length-le s h)
+
+pub byte_in : (s : List ℕ) (i b : ℕ) → i < length s → b ≡ get_or s i b → byte_at s i ≡ b
+unfolding byte_at
+byte_in s i b h e = rw (drop-cons s i b h) (sym e)
+
 -- the text up to a byte, and the byte
 pub take_byte : (s : List ℕ) (at b : ℕ) → b < 256 → byte_at s at ≡ b → take (suc at) s ≡ take at s ++ (b ∷ [])
 take_byte s at b l e = let (h, g) = byte_is s at b l e in rw (take-suc s at 0 h, g)
 
 -- what is read at a mark is the value's one text
-pub val_one : (c : ℕ) (s : List ℕ) (at : ℕ) (z : ℤ) (n : ℕ) → is_mark c ≡ true → val_at c s at ≡ Got z n → ValRead c z s at n
+pub val_one : (c : ℕ) (s : List ℕ) (at : ℕ) (z : ℤ) (n : ℕ) → is_mark c ≡ true → val_at c s at ≡ Some (z, n) → ValRead c z s at n
 unfolding val_at val_text
 val_one c s at z n m e = by_dec (eqb c 35) refl
   where
-    by_pos : (r : Num) (b : ℕ) → 9 ≤ b → b < 9223372036854775808 → num_at b s at ≡ r → eqb c 37 ≡ false
-        → ((w : ℕ) → w ≤ b → ok_val c (pos w) ≡ true) → pos_of r ≡ Got z n → ValRead c z s at n
-    by_pos (Value w k) b l u f g o e =
+    by_pos : (r : Option (ℕ × ℕ)) (b : ℕ) → 9 ≤ b → b < 9223372036854775808 → num_at b s at ≡ r → eqb c 37 ≡ false
+        → ((w : ℕ) → w ≤ b → ok_val c (pos w) ≡ true) → pos_of r ≡ Some (z, n) → ValRead c z s at n
+    by_pos (Some (w, k)) b l u f g o e =
         let (t, a, q, v) = dec_here b s at w k l f in
-        let p : pos w ≡ z = cc in
-        let x : k ≡ n = cc in
-        rw (← p, ← x) (record { text = rw g t; low = a; room = q; fits = o w v })
-    by_pos Bad b l u f g o e = absurd (let z : ◌≡◌ {A = ℕ} 0 1 = cc in omega arith)
+        let p = some_pair e in
+        rw (← p.0, ← p.1) (record { text = rw g t; low = a; room = q; fits = o w v })
+    by_pos None b l u f g o e = cc
 
-    by_neg : (r : Num) → num_at 9223372036854775808 s (suc at) ≡ r → c ≡ 36 → byte_at s at ≡ 45 → neg_of r ≡ Got z n → ValRead c z s at n
-    by_neg (Value zero k) f g h e = absurd (let z : ◌≡◌ {A = ℕ} 0 1 = cc in omega arith)
-    by_neg (Value (suc v) k) f g h e =
+    by_neg : (r : Option (ℕ × ℕ)) → num_at 9223372036854775808 s (suc at) ≡ r → c ≡ 36 → byte_at s at ≡ 45 → neg_of r ≡ Some (z, n) → ValRead c z s at n
+    by_neg (Some (zero, k)) f g h e = cc
+    by_neg (Some (suc v, k)) f g h e =
         let (t, a, q, u) = dec_here 9223372036854775808 s (suc at) (suc v) k (omega arith) f in
-        let p : negsuc v ≡ z = cc in
-        let x : k ≡ n = cc in
-        rw (← p, ← x) (record {
+        let p = some_pair e in
+        rw (← p.0, ← p.1) (record {
           text = rw (ne_eqb c 37 (omega arith)) (t ∙ ap (λ (y : List ℕ). y ++ dec (suc v)) (take_byte s at 45 (omega arith) h) ∙ append_snoc (take at s) 45 (dec (suc v)));
           low = omega arith;
           room = q;
           fits = rw (eq-eqb c 36 g) (lt-ltb v 9223372036854775808 (omega arith));
         })
-    by_neg Bad f g h e = absurd (let z : ◌≡◌ {A = ℕ} 0 1 = cc in omega arith)
+    by_neg None f g h e = cc
 
-    by_hex : (r : Num) → hex_at s at ≡ r → c ≡ 37 → pos_of r ≡ Got z n → ValRead c z s at n
-    by_hex (Value w k) f g e =
+    by_hex : (r : Option (ℕ × ℕ)) → hex_at s at ≡ r → c ≡ 37 → pos_of r ≡ Some (z, n) → ValRead c z s at n
+    by_hex (Some (w, k)) f g e =
         let (t, a, q, u) = hex_here s at w k f in
-        let p : pos w ≡ z = cc in
-        let x : k ≡ n = cc in
-        rw (← p, ← x) (record { text = rw (eq-eqb c 37 g) t; low = a; room = q; fits = rw (ne_eqb c 36 (omega arith)) (lt-ltb w 4294967296 u) })
-    by_hex Bad f g e = absurd (let z : ◌≡◌ {A = ℕ} 0 1 = cc in omega arith)
+        let p = some_pair e in
+        rw (← p.0, ← p.1) (record { text = rw (eq-eqb c 37 g) t; low = a; room = q; fits = rw (ne_eqb c 36 (omega arith)) (lt-ltb w 4294967296 u) })
+    by_hex None f g e = cc
 
     by_sign : (b : Bool) → eqb (byte_at s at) 45 ≡ b → c ≡ 36
-        → cond b (neg_of (num_at 9223372036854775808 s (suc at))) (pos_of (num_at 9223372036854775807 s at)) ≡ Got z n → ValRead c z s at n
+        → cond b (neg_of (num_at 9223372036854775808 s (suc at))) (pos_of (num_at 9223372036854775807 s at)) ≡ Some (z, n) → ValRead c z s at n
     by_sign true f g e = by_neg (num_at 9223372036854775808 s (suc at)) refl g (eqb-true (byte_at s at) 45 f) e
     by_sign false f g e =
         by_pos (num_at 9223372036854775807 s at) 9223372036854775807 (omega arith) (omega arith) refl (ne_eqb c 37 (omega arith))
@@ -120,24 +122,24 @@ val_one c s at z n m e = by_dec (eqb c 35) refl
     by_dec false f = by_36 (eqb c 36) refl f
 
 -- no number starts with a minus
-no_minus : (t : List ℕ) (m i w n : ℕ) → num_start m i t ≡ Value w n → head_or t ≡ 45 → ⊥
+no_minus : (t : List ℕ) (m i w n : ℕ) → num_start m i t ≡ Some (w, n) → head_or t ≡ 45 → ⊥
 unfolding num_start
 no_minus [] m i w n e h = absurd (omega arith)
-no_minus (c ∷ t) m i w n e h = let g : Bad ≡ Value w n = rw h at e in let z : ◌≡◌ {A = ℕ} 0 1 = cc in omega arith
+no_minus (c ∷ t) m i w n e h = let g : ◌≡◌ {A = Option (ℕ × ℕ)} None (Some (w, n)) = rw h at e in cc
 
 drop_next : (p : List ℕ) (c : ℕ) (x : List ℕ) → drop (suc (length p)) (p ++ c ∷ x) ≡ x
 drop_next p c x = rw (add-one (length p)) at (drop-append-add p (c ∷ x) 1)
 
 -- the text of a value is read back, whatever stands behind it that is no digit
 pub val_back : (c : ℕ) (z : ℤ) (p q : List ℕ) → is_mark c ≡ true → ok_val c z ≡ true → stops q ≡ true
-    → val_at c (p ++ (val_text c z ++ q)) (length p) ≡ Got z (length p + length (val_text c z))
+    → val_at c (p ++ (val_text c z ++ q)) (length p) ≡ Some (z, length p + length (val_text c z))
 unfolding val_at val_text num_at hex_at byte_at
 val_back c z p q m o h = by_dec (eqb c 35) refl
   where
     goal : ℤ → Type 0
-    goal z = val_at c (p ++ (val_text c z ++ q)) (length p) ≡ Got z (length p + length (val_text c z))
+    goal z = val_at c (p ++ (val_text c z ++ q)) (length p) ≡ Some (z, length p + length (val_text c z))
 
-    by_pos : (n b : ℕ) → n ≤ b → num_start b (length p) (drop (length p) (p ++ (dec n ++ q))) ≡ Value n (length p + length (dec n))
+    by_pos : (n b : ℕ) → n ≤ b → num_start b (length p) (drop (length p) (p ++ (dec n ++ q))) ≡ Some (n, length p + length (dec n))
     by_pos n b l = rw drop-append_seam (num_back b n (length p) q l h)
 
     dec_35 : (z : ℤ) → ok_val c z ≡ true → c ≡ 35 → goal z
@@ -153,7 +155,7 @@ val_back c z p q m o h = by_dec (eqb c 35) refl
         rw (ne_eqb c 35 (omega arith), eq-eqb c 36 e, ne_eqb c 37 (omega arith), ne_eqb (head_or (drop (length p) (p ++ (dec n ++ q)))) 45 (no_minus _ _ _ _ _ g), g)
     dec_36 (negsuc n) o e =
         let l : n < 9223372036854775808 = ltb-true n 9223372036854775808 (rw (eq-eqb c 36 e) at o) in
-        rw (ne_eqb c 35 (omega arith), eq-eqb c 36 e, ne_eqb c 37 (omega arith), drop-append_seam, drop_next, num_back 9223372036854775808 (suc n) (suc (length p)) q (omega arith) h) (ap (Got (negsuc n)) (omega arith))
+        rw (ne_eqb c 35 (omega arith), eq-eqb c 36 e, ne_eqb c 37 (omega arith), drop-append_seam, drop_next, num_back 9223372036854775808 (suc n) (suc (length p)) q (omega arith) h) (ap (λ (k : ℕ). Some (negsuc n, k)) (omega arith))
 
     hex_37 : (z : ℤ) → ok_val c z ≡ true → c ≡ 37 → goal z
     hex_37 (pos n) o e =
@@ -220,8 +222,8 @@ form_one (c ∷ f) s at w l e = go (is_mark c) refl (form_one f s)
     Ih : Type 0
     Ih = (at : ℕ) → all_bytes f ≡ true → at ≤ length s → (form_at f s at).ok ≡ true → FormRead f s at (form_at f s at)
 
-    by_val : (v : Val) → val_at c s at ≡ v → is_mark c ≡ true → (with_val v (λ n. form_at f s n)).ok ≡ true → Ih → FormRead (c ∷ f) s at (with_val v (λ n. form_at f s n))
-    by_val (Got z n) g m e ih =
+    by_val : (v : Option (ℤ × ℕ)) → val_at c s at ≡ v → is_mark c ≡ true → (with_val v (λ n. form_at f s n)).ok ≡ true → Ih → FormRead (c ∷ f) s at (with_val v (λ n. form_at f s n))
+    by_val (Some (z, n)) g m e ih =
         let v = val_one c s at z n m g in
         let r = ih n (and_2 (ltb c 256) (all_bytes f) w) v.room e in
         record {
@@ -230,7 +232,7 @@ form_one (c ∷ f) s at w l e = go (is_mark c) refl (form_one f s)
           room = r.room;
           fits = rw m (and_i (ok_val c z) (fits f (form_at f s n).vals) v.fits r.fits);
         }
-    by_val Not g m e ih = absurd (false≢true e)
+    by_val None g m e ih = absurd (false≢true e)
 
     by_lit : (b : Bool) → eqb (byte_at s at) c ≡ b → is_mark c ≡ false → (cond b (form_at f s (suc at)) failed).ok ≡ true → Ih
         → FormRead (c ∷ f) s at (cond b (form_at f s (suc at)) failed)

@@ -1,7 +1,5 @@
 -- Lowercase hex numbers of a fixed count of digits: the one text, and what reading one at a place finds. Definitions only.
-use Rattle.std.specs.Prelude.{ℕ, zero, suc, ◌+◌, ◌-◌, ◌*◌, ◌/◌, ◌%◌, List, [], ◌∷◌, ◌++◌, cond, drop, ltb}
-use Rattle.form.specs.declared.decimal.Num.{Num}
-use Rattle.form.specs.declared.decimal.Num.TheVariants.{Value, Bad}
+use Rattle.std.specs.Prelude.{Option, Some, None, ℕ, zero, suc, ◌+◌, ◌-◌, ◌*◌, ◌/◌, ◌%◌, List, [], ◌∷◌, ◌++◌, cond, drop, ltb}
 
 -- what a byte stands for as a hex digit; 16 where it is none
 abbrev pub hex_of : ℕ → ℕ
@@ -16,10 +14,10 @@ hex zero n = []
 hex (suc k) n = hex k (n / 16) ++ (hex_byte (n % 16) ∷ [])
 
 -- k digits that follow v, at the place i, where t stands
-unfoldable pub hex_go : ℕ → ℕ → ℕ → List ℕ → Num
-hex_go zero v i t = Value v i
-hex_go (suc k) v i [] = Bad
-hex_go (suc k) v i (c ∷ t) = cond (ltb 15 (hex_of c)) Bad (hex_go k (v * 16 + hex_of c) (suc i) t)
+unfoldable pub hex_go : ℕ → ℕ → ℕ → List ℕ → Option (ℕ × ℕ)
+hex_go zero v i t = Some (v, i)
+hex_go (suc k) v i [] = None
+hex_go (suc k) v i (c ∷ t) = cond (ltb 15 (hex_of c)) None (hex_go k (v * 16 + hex_of c) (suc i) t)
 
-unfoldable pub hex_at : List ℕ → ℕ → Num
+unfoldable pub hex_at : List ℕ → ℕ → Option (ℕ × ℕ)
 hex_at s at = hex_go 8 0 at (drop at s)

@@ -1,11 +1,11 @@
 -- Laws of hex text: a number's text is read back, and what is read is the number's one text. Assumes nothing.
-use Rattle.std.specs.Prelude.{◌≡◌, refl, List, [], ◌∷◌, ◌++◌, Bool, true, false, ℕ, zero, suc, ◌+◌, ◌-◌, ◌*◌, ◌/◌, ◌%◌, ◌^◌, ◌≤◌, ◌<◌, length, take, set, ltb}
+use Rattle.std.specs.Prelude.{Option, Some, None, ◌≡◌, refl, List, [], ◌∷◌, ◌++◌, Bool, true, false, ℕ, zero, suc, ◌+◌, ◌-◌, ◌*◌, ◌/◌, ◌%◌, ◌^◌, ◌≤◌, ◌<◌, length, take, set, ltb}
 use Rattle.std.proofs.Common.{sym, ◌∙◌, append_assoc, append-nil, div-add-mod', add-zero, add-suc, suc-add, zero-add, add-one, arith, length-append, lt-ltb, le-ltb, ltb-true, ltb-false}
 use Rattle.std.proofs.Math.Seq.{append_snoc}
 use Rattle.std.proofs.lemmas.List.Edits.{sets}
 use Rattle.form.specs.Put.{sets_append}
+use Rattle.form.specs.DecLaws.{some_pair}
 use Rattle.form.specs.Hex.{hex, hex_go, hex_of, hex_byte}
-use Rattle.form.specs.declared.decimal.Num.TheVariants.{Value, Bad}
 
 pub hex_len : (k n : ℕ) → length (hex k n) ≡ k
 unfolding hex
@@ -56,7 +56,7 @@ hex_read (suc k) j n i t h =
       add-suc i k,
     )
 
-pub hex_back : (k n i : ℕ) (t : List ℕ) → n < 16 ^ k → hex_go k 0 i (hex k n ++ t) ≡ Value n (i + k)
+pub hex_back : (k n i : ℕ) (t : List ℕ) → n < 16 ^ k → hex_go k 0 i (hex k n ++ t) ≡ Some (n, i + k)
 unfolding hex_go
 hex_back k n i t h = rw (add-zero k) at (hex_read k 0 n i t h)
 
@@ -74,18 +74,18 @@ hex_snoc p v d h =
     let b : (v * 16 + d) % 16 ≡ d = omega arith in
     rw (a, b)
 
-pub hex_one : (t : List ℕ) (k p v i w n : ℕ) → v < 16 ^ p → hex_go k v i t ≡ Value w n → Hexed k w n i (p + k) (hex p v) t
+pub hex_one : (t : List ℕ) (k p v i w n : ℕ) → v < 16 ^ p → hex_go k v i t ≡ Some (w, n) → Hexed k w n i (p + k) (hex p v) t
 unfolding hex_go
 hex_one t zero p v i w n h e =
-    let a : v ≡ w = cc in
-    record { text = rw (add-zero p, a) (append-nil (hex p w)); next = rw (add-zero i) (cc); room = omega arith; small = rw (add-zero p) (omega arith) }
-hex_one [] (suc k) p v i w n h e = absurd (let z : ◌≡◌ {A = ℕ} 0 1 = cc in omega arith)
+    let g = some_pair e in
+    record { text = rw (add-zero p, g.0) (append-nil (hex p w)); next = rw (add-zero i) (sym g.1); room = omega arith; small = rw (add-zero p, ← g.0) h }
+hex_one [] (suc k) p v i w n h e = cc
 hex_one (c ∷ t) (suc k) p v i w n h e = go (ltb 15 (hex_of c)) refl (hex_one t k (suc p) (v * 16 + hex_of c) (suc i) w n)
   where
     go : (b : Bool) → ltb 15 (hex_of c) ≡ b
-        → (v * 16 + hex_of c < 16 ^ suc p → hex_go k (v * 16 + hex_of c) (suc i) t ≡ Value w n → Hexed k w n (suc i) (suc p + k) (hex (suc p) (v * 16 + hex_of c)) t)
+        → (v * 16 + hex_of c < 16 ^ suc p → hex_go k (v * 16 + hex_of c) (suc i) t ≡ Some (w, n) → Hexed k w n (suc i) (suc p + k) (hex (suc p) (v * 16 + hex_of c)) t)
         → Hexed (suc k) w n i (p + suc k) (hex p v) (c ∷ t)
-    go true f ih = let g : Bad ≡ Value w n = rw f at e in absurd (let z : ◌≡◌ {A = ℕ} 0 1 = cc in omega arith)
+    go true f ih = let g : ◌≡◌ {A = Option (ℕ × ℕ)} None (Some (w, n)) = rw f at e in cc
     go false f ih =
         let d : hex_of c ≤ 15 = ltb-false 15 (hex_of c) f in
         let r = ih (omega arith) (rw f at e) in

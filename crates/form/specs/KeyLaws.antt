@@ -1,23 +1,16 @@
 -- [5] Laws of keys, over any form with one value: a key's text is read back, what is read is its one text, and `unsaid` written out is malformed. Assumes nothing.
-use Rattle.std.specs.Prelude.{◌≡◌, List, [], ◌∷◌, ◌++◌, map, Bool, ℕ, suc, ◌+◌, ◌≤◌, ◌<◌, get_or, take, drop, ℤ, pos}
-use Rattle.std.proofs.Math.Path.{refl, sym}
-use Rattle.std.proofs.Common.{ap, ◌∙◌, append-nil, add-one, arith, drop-drop}
-use Rattle.std.proofs.Math.Bool.{true, false}
+use Rattle.std.specs.Prelude.{eqb, false, length, refl, true, Option, Some, None, ◌≡◌, List, [], ◌∷◌, ◌++◌, map, Bool, ℕ, suc, ◌+◌, ◌≤◌, ◌<◌, get_or, take, drop, ℤ, pos}
+use Rattle.std.proofs.Common.{add-zero, eq-eqb, eqb-true, lt-ltb, ne_eqb, sym, ap, ◌∙◌, append-nil, add-one, arith, drop-drop}
 use Rattle.std.proofs.lemmas.Bool.{false≢true}
-use Rattle.std.proofs.Math.Nat.{add-zero}
-use Rattle.std.proofs.Math.ListN.{length}
 use Rattle.std.proofs.lemmas.List.Edits.{sets}
 use Rattle.std.proofs.Math.Seq.{drop-append_seam}
-use Rattle.std.proofs.Math.Dec.{eqb}
-use borrow.Author.Tests.{lt-ltb, eq-eqb, ne_eqb, eqb-true}
 use Rattle.form.specs.Form.{head_or, byte_at, is_mark, marks, form_at, form_text, taken_of, fits}
+use Rattle.form.specs.DecLaws.{some_pair}
 use Rattle.form.specs.FormLaws.{form_one, form_back, all_bytes, plain, parted, unword, ok_words, small_oks, small_z, and_i}
 use Rattle.form.specs.Put.{sets_all}
-use Rattle.form.specs.RunLaws.{form_length}
+use Rattle.form.specs.RunLaws.{form_length, took, not_taken}
 use Rattle.form.specs.Words.{word_of}
-use Rattle.form.specs.declared.line.Taken.{Taken}
-use Rattle.form.specs.Keys.{key_of, bad_key, key_at, key_text, unlike}
-use Rattle.form.specs.declared.keys.Key.{Key}
+use Rattle.form.specs.Keys.{Key, said_of, key_of, bad_key, key_at, key_text, unlike}
 
 -- a form does not stand where its first bytes do not
 pub unlike_not : (f s : List ℕ) (at : ℕ) → unlike f (drop at s) ≡ true → (form_at f s at).ok ≡ false
@@ -103,22 +96,45 @@ unfolding key_text
 text_some f d w e = rw (ne_eqb w d e)
 
 -- the form did not stand there; it stood there with a value w
-module _ (f : List ℕ) (d : ℕ) (s : List ℕ) (at : ℕ) (t : Taken) (e : t ≡ taken_of (form_at f s at)) where
-  pub key_off : t.ok ≡ false → key_of at d ≡ key_at f d s at
+module _ (f : List ℕ) (d : ℕ) (s : List ℕ) (at : ℕ) where
+  pub key_off : (form_at f s at).ok ≡ false → key_of at d ≡ key_at f d s at
   unfolding key_at
-  key_off o = let k : (form_at f s at).ok ≡ false = sym (ap (λ (x : Taken). x.ok) e) ∙ o in rw k
+  key_off o = rw o
 
-  module _ (v : List ℤ) (w : ℕ) (o : t.ok ≡ true) (ev : v ≡ sets (pos 0 ∷ []) 0 (form_at f s at).vals) (m : marks f ≡ 1) (ew : w ≡ word_of (get_or v 0 (pos 0))) where
-    stood : (form_at f s at).ok ≡ true
-    stood = sym (ap (λ (x : Taken). x.ok) e) ∙ o
-
+  module _ (v : List ℤ) (w : ℕ) (o : (form_at f s at).ok ≡ true) (ev : v ≡ sets (pos 0 ∷ []) 0 (form_at f s at).vals) (m : marks f ≡ 1) (ew : w ≡ word_of (get_or v 0 (pos 0))) where
     value : w ≡ word_of (get_or (form_at f s at).vals 0 (pos 0))
-    value = ew ∙ ap (λ (x : List ℤ). word_of (get_or x 0 (pos 0))) (ev ∙ sets_all (pos 0 ∷ []) (form_at f s at).vals (form_length f s at stood ∙ m))
+    value = ew ∙ ap (λ (x : List ℤ). word_of (get_or x 0 (pos 0))) (ev ∙ sets_all (pos 0 ∷ []) (form_at f s at).vals (form_length f s at o ∙ m))
 
     pub key_bad : w ≡ d → bad_key ≡ key_at f d s at
     unfolding key_at
-    key_bad g = rw (stood, ← value, eq-eqb w d g)
+    key_bad g = rw (o, ← value, eq-eqb w d g)
 
-    pub key_on : (w ≡ d → ⊥) → key_of t.next w ≡ key_at f d s at
+    pub key_on : (w ≡ d → ⊥) → key_of (form_at f s at).next w ≡ key_at f d s at
     unfolding key_at
-    key_on g = rw (stood, ← value, ne_eqb w d g, e)
+    key_on g = rw (o, ← value, ne_eqb w d g)
+
+  -- and what is then said
+  pub said_off : taken_of (form_at f s at) ≡ None → Some (d, at) ≡ said_of (key_at f d s at)
+  said_off e = ap said_of (key_off (not_taken (form_at f s at) e))
+
+  module _ (n : ℕ) (e : taken_of (form_at f s at) ≡ Some n) (v : List ℤ) (w : ℕ) (ev : v ≡ sets (pos 0 ∷ []) 0 (form_at f s at).vals) (m : marks f ≡ 1) (ew : w ≡ word_of (get_or v 0 (pos 0))) where
+    pub said_bad : w ≡ d → None ≡ said_of (key_at f d s at)
+    said_bad g = ap said_of (key_bad v w (took (form_at f s at) n e).0 ev m ew g)
+
+    pub said_on : (w ≡ d → ⊥) → Some (w, n) ≡ said_of (key_at f d s at)
+    said_on g = ap (λ (x : ℕ). Some (w, x)) (sym (took (form_at f s at) n e).1) ∙ ap said_of (key_on v w (took (form_at f s at) n e).0 ev m ew g)
+
+-- what is said of a key tells all of it
+pub said_key : (k : Key) (w n : ℕ) → said_of k ≡ Some (w, n) → (k.ok ≡ true) × (k.word ≡ w) × (k.next ≡ n)
+said_key k w n e = go k.ok refl
+  where
+    go : (b : Bool) → k.ok ≡ b → (k.ok ≡ true) × (k.word ≡ w) × (k.next ≡ n)
+    go true p = let q = some_pair (rw p at e) in (p, q.0, q.1)
+    go false p = let q : ◌≡◌ {A = Option (ℕ × ℕ)} None (Some (w, n)) = rw p at e in cc
+
+pub ill_said : (k : Key) → said_of k ≡ None → k.ok ≡ false
+ill_said k e = go k.ok refl
+  where
+    go : (b : Bool) → k.ok ≡ b → k.ok ≡ false
+    go true p = let q : ◌≡◌ {A = Option (ℕ × ℕ)} (Some (k.word, k.next)) None = rw p at e in cc
+    go false p = p

@@ -1,8 +1,13 @@
 -- [5] An optional part of a line, a key: a form with one value of 32 bits. Where the key is not said it has the value `unsaid`, which is never written out. Definitions only.
-use Rattle.std.specs.Prelude.{ℕ, List, [], ◌∷◌, Bool, true, false, cond, eqb, pos, get_or, drop}
+use Rattle.std.specs.Prelude.{Option, Some, None, ℕ, List, [], ◌∷◌, Bool, true, false, cond, eqb, pos, get_or, drop}
 use Rattle.form.specs.Form.{head_or, is_mark, form_at, form_text}
 use Rattle.form.specs.Words.{word_of}
-use Rattle.form.specs.declared.keys.Key.{Key}
+
+-- whether a key is well said or not said, the place after it, and its value
+pub record Key : Type 0 where
+  pub ok : Bool
+  pub next : ℕ
+  pub word : ℕ
 
 abbrev pub key_of : ℕ → ℕ → Key
 key_of n w = record { ok = true; next = n; word = w }
@@ -16,6 +21,10 @@ key_at f unsaid s at =
     let o = form_at f s at in
     let w = word_of (get_or o.vals 0 (pos 0)) in
     cond o.ok (cond (eqb w unsaid) bad_key (key_of o.next w)) (key_of at unsaid)
+
+-- its value and the place after it, where it is well said or not said
+abbrev pub said_of : Key → Option (ℕ × ℕ)
+said_of k = cond k.ok (Some (k.word, k.next)) None
 
 -- the one text of a key with a value: nothing for `unsaid`
 unfoldable pub key_text : List ℕ → ℕ → ℕ → List ℕ

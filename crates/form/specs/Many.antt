@@ -1,7 +1,6 @@
 -- A form that stands several times, one behind the other. Definitions only.
-use Rattle.std.specs.Prelude.{List, [], ◌++◌, Bool, true, false, cond, ◌&&◌, ℕ, zero, suc, ◌+◌, take, drop, ℤ}
+use Rattle.std.specs.Prelude.{Result, Ok, Err, List, [], ◌++◌, Bool, true, false, cond, ◌&&◌, ℕ, zero, suc, take, drop, ℤ}
 use Rattle.form.specs.Form.{form_at, marks, form_text, fits}
-use Rattle.form.specs.declared.lines.Stood.{Stood}
 
 -- what reading n times a form finds: as for one form, and how many stood there
 pub record Run : Type 0 where
@@ -25,8 +24,9 @@ unfoldable pub rows_text : ℕ → List ℕ → List ℤ → List ℕ
 rows_text zero f vs = []
 rows_text (suc n) f vs = form_text f (take (marks f) vs) ++ rows_text n f (drop (marks f) vs)
 
-abbrev pub stood_of : Run → ℕ → Stood
-stood_of r k = record { ok = r.ok; next = r.next; good = k + r.good }
+-- the place after the rows, or how many stood
+abbrev pub stood_of : Run → Result ℕ ℕ
+stood_of r = cond r.ok (Ok r.next) (Err r.good)
 
 -- which values n rows can carry: those at the front, row by row
 unfoldable pub many_fit : ℕ → List ℕ → List ℤ → Bool

@@ -1,75 +1,64 @@
 // One line by its form: fixed bytes, and a mark for each value.
-ghost use Rattle.std.specs.Prelude.{◌≡◌, ◌+◌, ◌*◌, ◌≤◌, ◌<◌, length, drop};
+ghost use Rattle.std.specs.Prelude.{◌≡◌, ◌+◌, ◌*◌, ◌≤◌, length, drop};
 ghost use Rattle.std.proofs.lemmas.List.Edits.{sets};
 ghost use Rattle.form.specs.Form.{form_at, taken_of, marks, form_text, fits};
 
-use crate::value::{Val, is_mark, put_value, value, value_fits, value_len, wide};
-use crate::words::byte_at;
+use crate::value::{Mark, put_value, value, value_fits, value_len};
 
-// Whether a form stood at a place, and the place after it.
-#[derive(Clone, Copy)]
-pub struct Taken {
-    pub ok: bool,
-    pub next: usize,
+// How many values a form has.
+#[tactic(auto, using(crate::proofs::Turns::marks_count))]
+pub(crate) fn marks(f: &[u8]) -> usize
+    ensures { result ≡ marks f.now }
+{
+    f.iter().filter(|c| Mark::of(**c).is_some()).count()
 }
 
-// Reads the form f from `from` on, and puts its values into vals from `first` on.
-pub fn read_form(s: &[u8], from: usize, f: &[u8], vals: &mut [i64], first: usize) -> Taken
+// Reads the form f from `from` on, puts its values into vals from `first` on, and returns the place after it.
+#[tactic(auto, using(crate::proofs::Turns::reading))]
+pub fn read_form(s: &[u8], from: usize, f: &[u8], vals: &mut [i64], first: usize) -> Option<usize>
     requires { first + marks f.now ≤ length vals.old }
     ensures { (result ≡ taken_of (form_at f.now s.now from))
         × (vals.new ≡ sets vals.old first (form_at f.now s.now from).vals) }
 {
     let mut at = from;
     let mut j = first;
-    let mut k = 0;
-    while k < f.len() {
-        let c = f[k];
-        if is_mark(c) {
-            match value(c, s, at) {
-                Val::Got(z, n) => {
-                    vals[j] = z;
-                    j += 1;
-                    at = n;
-                    k += 1;
-                }
-                Val::Not => {
-                    return Taken { ok: false, next: 0 };
-                }
-            }
+    for c in f {
+        if let Some(mark) = Mark::of(*c) {
+            let (z, next) = value(mark, s, at)?;
+            vals[j] = z;
+            j += 1;
+            at = next;
         } else {
-            if byte_at(s, at) != wide(c) {
-                return Taken { ok: false, next: 0 };
+            if s.get(at)? != c {
+                return None;
             }
             at += 1;
-            k += 1;
         }
     }
-    Taken { ok: true, next: at }
+    Some(at)
 }
 
 // The length of the text of a form with the values of vals from `first` on.
+#[tactic(auto, using(crate::proofs::Turns::measuring))]
 pub fn form_len(f: &[u8], vals: &[i64], first: usize) -> usize
     requires { (first + marks f.now ≤ length vals.now) × (length f.now ≤ 65536) }
     ensures { (result ≡ length (form_text f.now (drop first vals.now))) × (result ≤ 21 * length f.now) }
 {
     let mut n: usize = 0;
     let mut j = first;
-    let mut k = 0;
-    while k < f.len() {
-        let c = f[k];
-        if is_mark(c) {
-            n += value_len(c, vals[j]);
+    for c in f {
+        if let Some(mark) = Mark::of(*c) {
+            n += value_len(mark, vals[j]);
             j += 1;
-            k += 1;
         } else {
             n += 1;
-            k += 1;
         }
     }
     n
 }
 
 // Writes a form with the values of vals from `first` on, from `from` on, and returns the place after it.
+#[tactic(auto, using(crate::proofs::Turns::writing))]
 pub fn put_form(f: &[u8], vals: &[i64], first: usize, buf: &mut [u8], from: usize) -> usize
     requires { (first + marks f.now ≤ length vals.now) × (from + length (form_text f.now (drop first vals.now)) ≤ length buf.old) }
     ensures { (result ≡ from + length (form_text f.now (drop first vals.now)))
@@ -77,40 +66,31 @@ pub fn put_form(f: &[u8], vals: &[i64], first: usize, buf: &mut [u8], from: usiz
 {
     let mut at = from;
     let mut j = first;
-    let mut k = 0;
-    while k < f.len() {
-        let c = f[k];
-        if is_mark(c) {
-            at = put_value(c, vals[j], buf, at);
+    for c in f {
+        if let Some(mark) = Mark::of(*c) {
+            at = put_value(mark, vals[j], buf, at);
             j += 1;
-            k += 1;
         } else {
-            buf[at] = c;
+            buf[at] = *c;
             at += 1;
-            k += 1;
         }
     }
     at
 }
 
 // Whether the values of vals from `first` on fit the form f.
+#[tactic(auto, using(crate::proofs::Turns::fitting))]
 pub(crate) fn form_fits(f: &[u8], vals: &[i64], first: usize) -> bool
     requires { first + marks f.now ≤ length vals.now }
     ensures { result ≡ fits f.now (drop first vals.now) }
 {
     let mut j = first;
-    let mut k = 0;
-    while k < f.len() {
-        let c = f[k];
-        if is_mark(c) {
-            if value_fits(c, vals[j]) {
-                j += 1;
-                k += 1;
-            } else {
+    for c in f {
+        if let Some(mark) = Mark::of(*c) {
+            if !value_fits(mark, vals[j]) {
                 return false;
             }
-        } else {
-            k += 1;
+            j += 1;
         }
     }
     true

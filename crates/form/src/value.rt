@@ -1,113 +1,97 @@
-// One value of a line, by its mark: # a decimal of 32 bits, $ a signed decimal of 64, % eight hex digits.
-ghost use Rattle.std.specs.Prelude.{◌≡◌, ◌+◌, ◌≤◌, ◌<◌, length};
+// One value of a line, by its mark.
+ghost use Rattle.std.specs.Prelude.{◌≡◌, ◌+◌, ◌≤◌, length, is_some, IfSome};
 ghost use Rattle.std.proofs.lemmas.List.Edits.{sets};
-ghost use Rattle.form.specs.Form.{pos_of, neg_of, val_at, val_text, is_mark, AtMost, ok_val};
+ghost use Rattle.form.specs.Form.{val_at, val_text, is_mark, byte_of, ok_val};
 
-use crate::decimal::{Num, dec_len, minus, number, plus, put_dec};
+use crate::decimal::{dec_len, number, put_dec};
 use crate::hex::{hex_number, put_hex};
-use crate::words::{byte_at, negative, size};
 
-// What reading a value finds.
+// What stands at a mark: a decimal of 32 bits, a signed decimal of 64, eight hex digits.
 #[derive(Clone, Copy)]
-pub enum Val {
-    Got(i64, usize),
-    Not,
+pub enum Mark {
+    Word,
+    Signed,
+    Hex,
 }
 
-fn up(n: Num) -> Val
-    requires { AtMost 9223372036854775807 n }
-    ensures { result ≡ pos_of n }
-{
-    match n {
-        Num::Value(v, i) => Val::Got(plus(v), i),
-        Num::Bad => Val::Not,
+impl Mark {
+    // The mark that a byte of a form is.
+    pub fn of(c: u8) -> Option<Mark>
+        ensures some { is_some result ≡ is_mark c }
+        ensures byte { IfSome result (λ m. c ≡ byte_of m) }
+    {
+        match c {
+            b'#' => Some(Mark::Word),
+            b'$' => Some(Mark::Signed),
+            b'%' => Some(Mark::Hex),
+            _ => None,
+        }
     }
 }
 
-fn down(n: Num) -> Val
-    requires { AtMost 9223372036854775808 n }
-    ensures { result ≡ neg_of n }
+// The signed decimal that starts at `at`, and the place after it. There is no -0.
+fn signed(s: &[u8], at: usize) -> Option<(i64, usize)>
+    ensures { result ≡ val_at 36 s.now at }
 {
-    match n {
-        Num::Value(v, i) => {
-            if v == 0 {
-                Val::Not
-            } else {
-                Val::Got(minus(v), i)
+    if *s.get(at)? == b'-' {
+        let (n, next) = number(s, at + 1, 9223372036854775808)?;
+        if n == 0 {
+            return None;
+        }
+        return Some((-1 - (n - 1) as i64, next));
+    }
+    let (n, next) = number(s, at, 9223372036854775807)?;
+    Some((n as i64, next))
+}
+
+// The value with the mark that starts at `at`, and the place after it.
+pub fn value(mark: Mark, s: &[u8], at: usize) -> Option<(i64, usize)>
+    ensures { result ≡ val_at (byte_of mark) s.now at }
+{
+    let (n, next) = match mark {
+        Mark::Word => number(s, at, 4294967295)?,
+        Mark::Signed => return signed(s, at),
+        Mark::Hex => hex_number(s, at)?,
+    };
+    Some((n as i64, next))
+}
+
+// The length of the text of a value with the mark.
+#[tactic(auto, using(crate::proofs::Values::value_texts))]
+pub fn value_len(mark: Mark, z: i64) -> usize
+    ensures { (result ≡ length (val_text (byte_of mark) z)) × (result ≤ 21) }
+{
+    match mark {
+        Mark::Hex => 8,
+        _ => dec_len(z.unsigned_abs()) + usize::from(z < 0),
+    }
+}
+
+// Writes a value with the mark from `at` on, and returns the place after it.
+#[tactic(auto, using(crate::proofs::Values::value_texts))]
+pub fn put_value(mark: Mark, z: i64, buf: &mut [u8], at: usize) -> usize
+    requires { at + length (val_text (byte_of mark) z) ≤ length buf.old }
+    ensures { (result ≡ at + length (val_text (byte_of mark) z)) × (buf.new ≡ sets buf.old at (val_text (byte_of mark) z)) }
+{
+    let size = z.unsigned_abs();
+    match mark {
+        Mark::Hex => put_hex(8, size, buf, at),
+        _ => {
+            if z < 0 {
+                buf[at] = b'-';
+                return put_dec(size, buf, at + 1);
             }
+            put_dec(size, buf, at)
         }
-        Num::Bad => Val::Not,
     }
-}
-
-// The value with the mark c that starts at `at`.
-pub fn value(c: u8, s: &[u8], at: usize) -> Val
-    ensures { result ≡ val_at c s.now at }
-{
-    if c == 35 {
-        return up(number(s, at, 4294967295));
-    }
-    if c == 36 {
-        if byte_at(s, at) == 45 {
-            return down(number(s, at + 1, 9223372036854775808));
-        }
-        return up(number(s, at, 9223372036854775807));
-    }
-    up(hex_number(s, at))
-}
-
-pub fn wide(c: u8) -> u64
-    ensures { result ≡ c }
-{
-    c as u64
-}
-
-pub fn is_mark(c: u8) -> bool
-    ensures { result ≡ is_mark c }
-{
-    if c < 35 {
-        return false;
-    }
-    c < 38
-}
-
-// The length of the text of a value with the mark c.
-pub fn value_len(c: u8, z: i64) -> usize
-    ensures { (result ≡ length (val_text c z)) × (result ≤ 21) }
-{
-    if c == 37 {
-        return 8;
-    }
-    if negative(z) {
-        return dec_len(size(z)) + 1;
-    }
-    dec_len(size(z))
-}
-
-// Writes a value with the mark c from `at` on, and returns the place after it.
-pub fn put_value(c: u8, z: i64, buf: &mut [u8], at: usize) -> usize
-    requires { at + length (val_text c z) ≤ length buf.old }
-    ensures { (result ≡ at + length (val_text c z)) × (buf.new ≡ sets buf.old at (val_text c z)) }
-{
-    if c == 37 {
-        return put_hex(8, size(z), buf, at);
-    }
-    if negative(z) {
-        buf[at] = 45;
-        return put_dec(size(z), buf, at + 1);
-    }
-    put_dec(size(z), buf, at)
 }
 
 // Whether a value fits its mark.
-pub fn value_fits(c: u8, z: i64) -> bool
-    ensures { result ≡ ok_val c z }
+pub fn value_fits(mark: Mark, z: i64) -> bool
+    ensures { result ≡ ok_val (byte_of mark) z }
 {
-    if c == 36 {
-        return true;
+    match mark {
+        Mark::Signed => true,
+        _ => u32::try_from(z).is_ok(),
     }
-    if negative(z) {
-        return false;
-    }
-    size(z) < 4294967296
 }

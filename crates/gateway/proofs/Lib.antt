@@ -1,7 +1,6 @@
 -- What the proofs share, and that each contract settles its function.
-pub mod Copies
 pub mod Signs
 pub mod Added
 pub mod Printable
-pub mod Shaped
+pub mod Zeros
 pub mod Settled

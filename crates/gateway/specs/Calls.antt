@@ -1,7 +1,6 @@
 -- What each call gives, for every input. A record that has not its count of numbers is refused with 255, and nothing is changed. Definitions only.
-use Rattle.std.specs.Prelude.{ℕ, ◌≡◌, Bool, cond, ◌&&◌, ◌||◌, List, [], ◌∷◌, eqb, leb, ℤ, length}
-use Rattle.cell.specs.declared.Answer.{Answer}
-use Rattle.cell.specs.declared.Answer.TheVariants.{Accepted}
+use Rattle.std.specs.Prelude.{ℕ, ◌≡◌, Bool, cond, ◌&&◌, ◌||◌, List, [], ◌∷◌, eqb, leb, ℤ, length, Ok}
+use Rattle.cell.specs.Answers.{Answer}
 use Rattle.cell.specs.declared.Card.{Card}
 use Rattle.cell.specs.declared.Collected.{Collected}
 use Rattle.cell.specs.declared.Entry.{Entry}
@@ -14,7 +13,7 @@ use Rattle.site.specs.Rows.{part_at}
 use Rattle.site.specs.Site.{site_answer, site_rows, clear_number, clear_rows}
 use Rattle.site.specs.Forms.{collecting_number, collected_rows, grow_number, grown_rows, shrink_number, shrunk_rows}
 use Rattle.site.specs.Sheet.{added_of}
-use Rattle.text.specs.declared.card.CardRead.{CardRead}
+use Rattle.text.specs.Reads.{CardRead}
 use Rattle.text.specs.Written.{written, buffer}
 use Rattle.text.specs.Cards.{parse, card_result, soil_result, card_text, card_checks}
 use Rattle.text.specs.Readings.{read_reading, text_of, reading_checks}
@@ -64,15 +63,15 @@ Shrinks card rows old =
     GivesRows (wide card card_width) number (list_by number (shrunk_rows (card_from card) rows) old) old
 
 -- ---- [6] collecting a cell: what the site collects, two zeros where it refuses, and the rows after it
-pub record GivesSums (shaped : Bool) (got : Collected) (after rows sums : List ℕ) (number : ℕ) (rows' sums' : List ℕ) : Type 0 where
-  pub number_is : number ≡ cond shaped got.number ill_shaped
+pub record GivesSums (shaped : Bool) (says : ℕ) (got : Collected) (after rows sums : List ℕ) (number : ℕ) (rows' sums' : List ℕ) : Type 0 where
+  pub number_is : number ≡ cond shaped says ill_shaped
   pub rows_are : rows' ≡ cond shaped after rows
   pub sums_are : sums' ≡ cond shaped (collected_numbers got) sums
 
 abbrev pub Collects : List ℕ → List ℕ → ℕ → List ℕ → ℕ → List ℕ → List ℕ → Type 0
 Collects card rows cell sums =
     let number = collecting_number (card_from card) rows cell in
-    GivesSums (wide card card_width && wide sums both_sums) (collected_by number (part_at (row_width (card_from card)) cell rows)) (list_by number (collected_rows (card_from card) cell rows) rows) rows sums
+    GivesSums (wide card card_width && wide sums both_sums) number (collected_by number (part_at (row_width (card_from card)) cell rows)) (list_by number (collected_rows (card_from card) cell rows) rows) rows sums
 
 -- ---- adding an answer to a sheet
 -- by number and signs an answer can be added: accepted, and no number of the sheet or of the answer negative but recharge
@@ -82,7 +81,7 @@ can_add sheet number amounts = eqb number 0 && signs_from 0 sheet_recharge sheet
 -- where it can, what the site says; else 11, and the sheet as it came
 abbrev pub added_to : List ℤ → ℕ → List ℤ → Added
 added_to sheet number amounts =
-    cond (can_add sheet number amounts) (added_of (sheet_from sheet) (Accepted (amounts_from amounts))) (record { sheet = sheet_from sheet; number = not_addable })
+    cond (can_add sheet number amounts) (added_of (sheet_from sheet) (Ok (amounts_from amounts))) (record { sheet = sheet_from sheet; number = not_addable })
 
 -- only a sheet to which an answer was added changes
 pub record GivesSheet (shaped : Bool) (added : Added) (sheet : List ℤ) (number : ℕ) (sheet' : List ℤ) : Type 0 where

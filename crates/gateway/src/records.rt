@@ -1,63 +1,23 @@
 // The records as rows of numbers, there and back.
-ghost use Rattle.std.specs.Prelude.{◌≡◌, ◌<◌, pos, nat_abs, length, get_or};
-ghost use Rattle.std.specs.Int.{w64};
-ghost use Rattle.std.proofs.Common.{SFits};
-ghost use Rattle.form.specs.Signed.{is_neg};
+ghost use Rattle.std.specs.Prelude.{◌≡◌};
 ghost use Rattle.site.specs.SheetLaws.{AmountsWithin, SheetIn};
 ghost use Rattle.gateway.specs.Shapes.{card_from, card_numbers, amount_numbers, amounts_from, sheet_numbers, sheet_from, signs_from, zeros, AllFit};
 ghost use Rattle.gateway.specs.Calls.{is_answer};
 
 use cell::{Amounts, Card, Net, Water};
-use form::words::{negative, size};
 use site::Sheet;
 
-// A net amount as a number.
-fn signed(z: Net) -> i64
-    ensures { result ≡ z.0 }
-{
-    z.0
-}
+// The places of the recharge, the one number of a row that may be negative: among the amounts and on a sheet.
+pub const AMOUNTS_RECHARGE: usize = 8;
 
-// The number at a place, its size, and whether it is negative.
-fn number_at(l: &[i64], i: usize) -> i64
-    requires { i < length l.now }
-    ensures { (result ≡ get_or l.now i (pos 0)) × SFits w64 (get_or l.now i (pos 0)) }
-{
-    l[i]
-}
+pub const SHEET_RECHARGE: usize = 9;
 
-fn size_at(l: &[i64], i: usize) -> u64
-    requires { i < length l.now }
-    ensures { (result ≡ nat_abs (get_or l.now i (pos 0))) × SFits w64 (get_or l.now i (pos 0)) }
-{
-    size(l[i])
-}
-
-fn negative_at(l: &[i64], i: usize) -> bool
-    requires { i < length l.now }
-    ensures { result ≡ is_neg (get_or l.now i (pos 0)) }
-{
-    negative(l[i])
-}
-
-fn depths_from(l: &[u32]) -> [u32; 30]
-    requires { length l.now ≡ 30 }
-    ensures { result ≡ l.now }
-{
-    let mut depths = [0u32; 30];
-    let mut k: usize = 0;
-    while k < 30 {
-        depths[k] = l[k];
-        k += 1;
-    }
-    depths
-}
-
-pub fn card_from(l: &[u32]) -> Card
-    requires { length l.now ≡ 33 }
+#[tactic(auto, unfolding(crate::specs::Shapes::card_from))]
+pub fn card_from(l: &[u32; 33]) -> Card
     ensures { result ≡ card_from l.now }
 {
-    let depths = depths_from(&l[2..32]);
+    let mut depths = [0; 30];
+    depths.copy_from_slice(&l[2..32]);
     Card {
         cells: l[0],
         delays: l[1],
@@ -66,121 +26,140 @@ pub fn card_from(l: &[u32]) -> Card
     }
 }
 
-pub fn put_card(c: Card, out: &mut [u32])
-    requires { length out.old ≡ 33 }
-    ensures { out.new ≡ card_numbers c }
+#[tactic(auto, unfolding(crate::specs::Shapes::card_numbers))]
+pub fn card_numbers(c: Card) -> [u32; 33]
+    ensures { result ≡ card_numbers c }
 {
-    let d = c.depths;
-    out[0] = c.cells;
-    out[1] = c.delays;
-    let mut k: usize = 0;
-    while k < 30 {
-        out[k + 2] = d[k];
-        k += 1;
-    }
-    out[32] = c.share;
+    let mut l = [0; 33];
+    l[0] = c.cells;
+    l[1] = c.delays;
+    l[2..32].copy_from_slice(&c.depths);
+    l[32] = c.share;
+    l
 }
 
-pub fn put_amounts(a: Amounts, out: &mut [i64])
-    requires { AmountsWithin a × (length out.old ≡ 10) }
-    ensures { out.new ≡ amount_numbers a }
+#[tactic(auto, unfolding(crate::specs::Shapes::amount_numbers))]
+pub fn amount_numbers(a: Amounts) -> [i64; 10]
+    requires { AmountsWithin a }
+    ensures { result ≡ amount_numbers a }
 {
-    out[0] = a.inflow.0 as i64;
-    out[1] = a.runoff.0 as i64;
-    out[2] = a.etvad.0 as i64;
-    out[3] = a.etstor.0 as i64;
-    out[4] = a.etsat.0 as i64;
-    out[5] = a.drain.0 as i64;
-    out[6] = a.release.0 as i64;
-    out[7] = a.stored.0 as i64;
-    out[8] = signed(a.recharge);
-    out[9] = a.left.0 as i64;
+    [
+        a.inflow.0 as i64,
+        a.runoff.0 as i64,
+        a.etvad.0 as i64,
+        a.etstor.0 as i64,
+        a.etsat.0 as i64,
+        a.drain.0 as i64,
+        a.release.0 as i64,
+        a.stored.0 as i64,
+        a.recharge.0,
+        a.left.0 as i64,
+    ]
 }
 
-pub fn amounts_from(l: &[i64]) -> Amounts
-    requires { length l.now ≡ 10 }
-    ensures { (result ≡ amounts_from l.now) × AllFit l.now }
+#[tactic(auto, unfolding(crate::specs::Shapes::amounts_from))]
+pub fn amounts_from(l: &[i64; 10]) -> Amounts
+    ensures is { result ≡ amounts_from l.now }
+    ensures fit { AllFit l.now }
 {
+    let [
+        inflow,
+        runoff,
+        etvad,
+        etstor,
+        etsat,
+        drain,
+        release,
+        stored,
+        recharge,
+        left,
+    ] = *l;
     Amounts {
-        inflow: Water(size_at(l, 0)),
-        runoff: Water(size_at(l, 1)),
-        etvad: Water(size_at(l, 2)),
-        etstor: Water(size_at(l, 3)),
-        etsat: Water(size_at(l, 4)),
-        drain: Water(size_at(l, 5)),
-        release: Water(size_at(l, 6)),
-        stored: Water(size_at(l, 7)),
-        recharge: Net(number_at(l, 8)),
-        left: Water(size_at(l, 9)),
+        inflow: Water(inflow.unsigned_abs()),
+        runoff: Water(runoff.unsigned_abs()),
+        etvad: Water(etvad.unsigned_abs()),
+        etstor: Water(etstor.unsigned_abs()),
+        etsat: Water(etsat.unsigned_abs()),
+        drain: Water(drain.unsigned_abs()),
+        release: Water(release.unsigned_abs()),
+        stored: Water(stored.unsigned_abs()),
+        recharge: Net(recharge),
+        left: Water(left.unsigned_abs()),
     }
 }
 
-pub fn put_sheet(s: Sheet, out: &mut [i64])
-    requires { SheetIn s × (length out.old ≡ 10) }
-    ensures { out.new ≡ sheet_numbers s }
+#[tactic(auto, unfolding(crate::specs::Shapes::sheet_numbers))]
+pub fn sheet_numbers(s: Sheet) -> [i64; 10]
+    requires { SheetIn s }
+    ensures { result ≡ sheet_numbers s }
 {
-    out[0] = s.steps as i64;
-    out[1] = s.inflow.0 as i64;
-    out[2] = s.runoff.0 as i64;
-    out[3] = s.etvad.0 as i64;
-    out[4] = s.etstor.0 as i64;
-    out[5] = s.etsat.0 as i64;
-    out[6] = s.drain.0 as i64;
-    out[7] = s.release.0 as i64;
-    out[8] = s.stored.0 as i64;
-    out[9] = signed(s.recharge);
+    [
+        s.steps as i64,
+        s.inflow.0 as i64,
+        s.runoff.0 as i64,
+        s.etvad.0 as i64,
+        s.etstor.0 as i64,
+        s.etsat.0 as i64,
+        s.drain.0 as i64,
+        s.release.0 as i64,
+        s.stored.0 as i64,
+        s.recharge.0,
+    ]
 }
 
-pub fn sheet_from(l: &[i64]) -> Sheet
-    requires { length l.now ≡ 10 }
-    ensures { (result ≡ sheet_from l.now) × AllFit l.now }
+#[tactic(auto, unfolding(crate::specs::Shapes::sheet_from))]
+pub fn sheet_from(l: &[i64; 10]) -> Sheet
+    ensures is { result ≡ sheet_from l.now }
+    ensures fit { AllFit l.now }
 {
+    let [
+        steps,
+        inflow,
+        runoff,
+        etvad,
+        etstor,
+        etsat,
+        drain,
+        release,
+        stored,
+        recharge,
+    ] = *l;
     Sheet {
-        steps: size_at(l, 0),
-        inflow: Water(size_at(l, 1)),
-        runoff: Water(size_at(l, 2)),
-        etvad: Water(size_at(l, 3)),
-        etstor: Water(size_at(l, 4)),
-        etsat: Water(size_at(l, 5)),
-        drain: Water(size_at(l, 6)),
-        release: Water(size_at(l, 7)),
-        stored: Water(size_at(l, 8)),
-        recharge: Net(number_at(l, 9)),
+        steps: steps.unsigned_abs(),
+        inflow: Water(inflow.unsigned_abs()),
+        runoff: Water(runoff.unsigned_abs()),
+        etvad: Water(etvad.unsigned_abs()),
+        etstor: Water(etstor.unsigned_abs()),
+        etsat: Water(etsat.unsigned_abs()),
+        drain: Water(drain.unsigned_abs()),
+        release: Water(release.unsigned_abs()),
+        stored: Water(stored.unsigned_abs()),
+        recharge: Net(recharge),
     }
 }
 
 // No number is negative but the one at place k.
-pub fn signs(l: &[i64], k: usize) -> bool
+pub fn signs(l: &[i64; 10], k: usize) -> bool
     ensures { result ≡ signs_from 0 k l.now }
 {
-    let mut ok = true;
-    let mut i = 0;
-    while i < l.len() {
-        ok = ok & ((i == k) | !negative_at(l, i));
-        i += 1;
-    }
-    ok
+    l.iter().enumerate().all(|(i, z)| i == k || *z >= 0)
 }
 
 // Each number is 0.
-fn all_zero(l: &[i64]) -> bool
+fn all_zero(l: &[i64; 10]) -> bool
     ensures { result ≡ zeros l.now }
 {
-    let mut ok = true;
-    let mut i = 0;
-    while i < l.len() {
-        ok = ok & (size_at(l, i) == 0);
-        i += 1;
-    }
-    ok
+    l.iter().all(|z| *z == 0)
 }
 
 // By number and signs, a host's number and amounts can be an answer of a step.
-pub fn is_answer(number: u32, amounts: &[i64]) -> bool
+#[tactic(auto, unfolding(crate::specs::Calls::is_answer))]
+pub fn is_answer(number: u32, amounts: &[i64; 10]) -> bool
     ensures { result ≡ is_answer number amounts.now }
 {
-    if number == 0 {
-        return signs(amounts, 8);
+    match number {
+        0 => signs(amounts, AMOUNTS_RECHARGE),
+        1..=10 | 15 | 17 => all_zero(amounts),
+        _ => false,
     }
-    ((number <= 10) | (number == 15) | (number == 17)) & all_zero(amounts)
 }

@@ -1,7 +1,9 @@
 #![tactic(auto)]
 
 ghost use Rattle.std.specs.Prelude.{◌≡◌, ◌/◌, ◌^◌, ◌<◌};
-ghost use Rattle.head.specs.Level.{floor_div, level_um};
+ghost use Rattle.std.specs.Float.{binary32};
+ghost use Rattle.std.specs.Float.Ieee.{nan_bits};
+ghost use Rattle.head.specs.Level.{floor_div, usable, level_um};
 ghost use Rattle.head.specs.Class.{class_of};
 ghost use Rattle.head.specs.Pattern.{pattern_of, carried_of};
 
@@ -25,6 +27,13 @@ pub struct Carried {
     pub nan: u32,
 }
 
+// Whether a float can be a level: at most 10,000 m in size.
+fn usable(x: f32) -> bool
+    ensures { result ≡ usable x }
+{
+    -10000.0 <= x && x <= 10000.0
+}
+
 // The head that a float means.
 pub fn classify(x: f32) -> Head
     ensures { result ≡ class_of x }
@@ -35,10 +44,8 @@ pub fn classify(x: f32) -> Head
     if x == 1.0e30 {
         return Head::Inactive;
     }
-    if -10000.0 <= x {
-        if x <= 10000.0 {
-            return Head::Level(x);
-        }
+    if usable(x) {
+        return Head::Level(x);
     }
     Head::Unusable
 }
@@ -47,7 +54,7 @@ pub fn classify(x: f32) -> Head
 fn shifted(n: u64, k: u32) -> u64
     ensures { result ≡ n / 2 ^ k }
 {
-    if k < 64 { n >> k } else { 0 }
+    n.checked_shr(k).unwrap_or(0)
 }
 
 // n / 2 ^ k, or -n / 2 ^ k, rounded down.
@@ -55,15 +62,13 @@ fn floored(negative: bool, n: u64, k: u32) -> i64
     requires { n < 2 ^ 63 }
     ensures { result ≡ floor_div negative n (2 ^ k) }
 {
-    if negative {
-        if n == 0 {
-            0
-        } else {
-            -1 - (shifted(n - 1, k) as i64)
-        }
-    } else {
-        shifted(n, k) as i64
+    if !negative {
+        return shifted(n, k) as i64;
     }
+    if n == 0 {
+        return 0;
+    }
+    -1 - (shifted(n - 1, k) as i64)
 }
 
 // The height of a level, rounded down; 0 for a float that can be none. |x| <= 10,000 leaves a field of at most
@@ -71,29 +76,34 @@ fn floored(negative: bool, n: u64, k: u32) -> i64
 pub fn level_um(x: f32) -> Height
     ensures { result.0 ≡ level_um x }
 {
-    if -10000.0 <= x {
-        if x <= 10000.0 {
-            // in size x is `fraction` * 2 ^ -149, or (`fraction` + 2 ^ 23) * 2 ^ (`field` - 150)
-            let bits: u32 = f32::to_bits(x);
-            let negative = bits >= 0x8000_0000;
-            let field: u32 = bits / 0x80_0000 % 256;
-            let fraction: u64 = (bits % 0x80_0000) as u64;
-            if field == 0 {
-                return Height(floored(negative, fraction * 1000000, 149));
-            }
-            return Height(floored(negative, (fraction + 0x80_0000) * 1000000, 150 - field));
-        }
+    if !usable(x) {
+        return Height(0);
     }
-    Height(0)
+    // in size x is `fraction` * 2 ^ -149, or (`fraction` + 2 ^ 23) * 2 ^ (`field` - 150)
+    let bits = x.to_bits();
+    let negative = bits >= 0x8000_0000;
+    let field = bits / 0x80_0000 % 256;
+    let fraction = u64::from(bits % 0x80_0000);
+    if field == 0 {
+        return Height(floored(negative, fraction * 1000000, 149));
+    }
+    Height(floored(negative, (fraction + 0x80_0000) * 1000000, 150 - field))
+}
+
+// Whether a pattern is a NaN's.
+fn is_nan_pattern(bits: u32) -> bool
+    ensures { result ≡ nan_bits binary32 bits }
+{
+    bits % 0x8000_0000 > 0x7f80_0000
 }
 
 // The float of a pattern. A NaN's bits are kept beside it.
 pub fn from_pattern(bits: u32) -> Carried
     ensures { result ≡ carried_of bits }
 {
-    if bits % 0x8000_0000 > 0x7f80_0000 {
+    if is_nan_pattern(bits) {
         Carried {
-            value: 0.0 / 0.0,
+            value: f32::NAN,
             nan: bits,
         }
     } else {
@@ -108,15 +118,12 @@ pub fn from_pattern(bits: u32) -> Carried
 pub fn pattern_of(h: Carried) -> u32
     ensures { result ≡ pattern_of h }
 {
-    let v = h.value;
-    let n = h.nan;
-    if v != v {
-        if n % 0x8000_0000 > 0x7f80_0000 {
-            n
-        } else {
-            0x7fc0_0000
-        }
+    if !h.value.is_nan() {
+        return h.value.to_bits();
+    }
+    if is_nan_pattern(h.nan) {
+        h.nan
     } else {
-        f32::to_bits(v)
+        0x7fc0_0000
     }
 }

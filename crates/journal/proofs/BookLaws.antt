@@ -1,17 +1,17 @@
 -- What the program prints, by what stands in its input, and how much at the most. Assumes nothing.
 use Rattle.std.specs.Prelude.{◌≡◌, refl, Bool, true, false, List, ◌++◌, ℕ, zero, suc, ◌+◌, ◌-◌, ◌*◌, ◌≤◌, ◌<◌, ◌^◌, eqb, leb, ltb, ℤ, length, drop}
-use Rattle.std.proofs.Common.{◌∙◌, append_assoc, add-zero, arith, length-append, length-drop}
-use borrow.Author.Tests.{eqb-true, eqb-false, leb-true, ltb-false, eq-eqb, ne_eqb, lt-ltb, le-ltb}
+use Rattle.std.proofs.Common.{◌∙◌, append_assoc, add-zero, arith, length-append, length-drop, eqb-true, leb-true, ltb-false, eq-eqb, ne_eqb, lt-ltb, le-ltb}
+use borrow.Author.Tests.{eqb-false}
 use Rattle.form.specs.LengthLaws.{text_most}
+use Rattle.cell.specs.Answers.{Answer}
 use Rattle.cell.specs.declared.Card.{Card}
 use Rattle.cell.specs.Ranges.{cell_of}
-use Rattle.cell.specs.declared.Answer.{Answer}
 use Rattle.site.specs.declared.Sheet.{Sheet}
 use Rattle.site.specs.Site.{site_answer, site_rows, clear_number, clear_rows}
 use Rattle.site.proofs.SiteLaws.{clear_most}
 use Rattle.site.specs.Sheet.{no_steps, added_of}
 use Rattle.site.specs.SheetLaws.{SheetIn, sheet_none, sheet_added}
-use Rattle.text.specs.declared.entry.EntryRead.{EntryRead}
+use Rattle.text.specs.Reads.{EntryRead}
 use Rattle.text.specs.Voids.{read_entry}
 use Rattle.text.specs.Cards.{Parsed, parse}
 use Rattle.text.proofs.CardTexts.{line_most, cells_most}

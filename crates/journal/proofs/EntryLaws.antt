@@ -1,12 +1,11 @@
 -- Every entry's line gets one line of the book, and the last line's sums are those of the accepted ones. Assumes nothing.
-use Rattle.std.specs.Prelude.{◌≡◌, refl, Bool, true, false, cond, List, [], ◌∷◌, ◌++◌, ℕ, zero, suc, ◌+◌, ◌≤◌, ◌<◌, eqb, ℤ, length, drop}
+use Rattle.std.specs.Prelude.{◌≡◌, refl, Bool, true, false, cond, List, [], ◌∷◌, ◌++◌, ℕ, zero, suc, ◌+◌, ◌≤◌, ◌<◌, eqb, ℤ, length, drop, Ok, Err}
 use Rattle.std.proofs.Common.{sym, ap, ◌∙◌, append_assoc, arith, eqb-true, length-drop, take-append-drop}
 use Rattle.std.proofs.lemmas.Bool.{false≢true, eqb-false}
 use Rattle.std.proofs.lemmas.List.{length-map}
 use Rattle.form.specs.Ends.{line_ends}
 use Rattle.form.specs.EndLaws.{ends_append, ends_form}
-use Rattle.cell.specs.declared.Answer.{Answer}
-use Rattle.cell.specs.declared.Answer.TheVariants.{Accepted, Refused}
+use Rattle.cell.specs.Answers.{Answer}
 use Rattle.cell.specs.declared.Card.{Card}
 use Rattle.cell.specs.declared.Entry.{Entry}
 use Rattle.cell.specs.Refusals.{amounts_of}
@@ -15,7 +14,7 @@ use Rattle.site.specs.Site.{site_answer, site_rows, clear_number, clear_rows}
 use Rattle.site.specs.Sheet.{no_steps, after_all}
 use Rattle.site.specs.SheetLaws.{AmountsWithin, AllWithin, Holds, accepted, from_none}
 use Rattle.site.proofs.SheetSteps.{site_within}
-use Rattle.text.specs.declared.entry.EntryRead.{EntryRead}
+use Rattle.text.specs.Reads.{EntryRead}
 use Rattle.text.specs.Voids.{read_entry, entry_text}
 use Rattle.text.specs.Printed.{answer_text, sheet_text}
 use Rattle.text.proofs.LineLaws.{entry_takes, entry_text_lem, entry_line, answer_line, sheet_line}
@@ -95,8 +94,8 @@ lines_printed n card soil rows sheet line s =
 
 -- ---- the sums
 cons_within : (x : Answer) (xs : List Answer) → AmountsWithin (amounts_of x) → AllWithin xs → AllWithin (x ∷ xs)
-cons_within (Accepted a) xs h w = (h, w)
-cons_within (Refused why) xs h w = w
+cons_within (Ok a) xs h w = (h, w)
+cons_within (Err why) xs h w = w
 
 all_within : (card : Card) (soil : List ℤ) (rows : List ℕ) (is : List Entry) → AllWithin (answers_of (answered_of card soil rows is))
 unfolding answered_of
@@ -105,8 +104,8 @@ all_within card soil rows (i ∷ is) = cons_within (site_answer card soil rows i
 
 few_accepted : (xs : List Answer) → accepted xs ≤ length xs
 few_accepted [] = omega arith
-few_accepted (Accepted a ∷ xs) = omega (arith, few_accepted xs)
-few_accepted (Refused why ∷ xs) = omega (arith, few_accepted xs)
+few_accepted (Ok a ∷ xs) = omega (arith, few_accepted xs)
+few_accepted (Err why ∷ xs) = omega (arith, few_accepted xs)
 
 -- ---- a journal that is well formed, with a card that can be cleared
 module _ (card : Card) (soil : List ℤ) (rows rest : List ℕ) (h : length rest ≤ input_limit) (c : clear_number card rows ≡ 0) (w : (entries_in (length rest) rest).well_formed ≡ true) where

@@ -1,17 +1,9 @@
 -- A book that was written, or for which there was no room, is what the contract says. Assumes nothing.
-use mathlib.Core.Path.{◌≡◌, refl, sym, ap, ◌∙◌}
-use mathlib.Core.Bool.{true, false}
-use mathlib.Core.List.{List, ◌∷◌}
-use Prim.Native.Nat.{ℕ, zero, suc, ◌-◌, ◌*◌, ◌≤◌}
-use native.Mathlib.Nat.{zero-add}
-use native.Mathlib.Omega.{arith}
-use borrow.Author.Tests.{leb-true}
-use lib.Dec.{leb}
-use lib.IntN.{ℤ, pos}
-use lib.ListN.{length, take, drop, replicate, length-replicate}
+use Rattle.std.proofs.Common.{◌≡◌, refl, true, false, List, ◌∷◌, ℕ, zero, suc, ◌+◌, ◌-◌, ◌*◌, ◌≤◌, leb, ℤ, pos, length, take, drop, replicate, sym, ap, ◌∙◌, zero-add, arith, leb-true}
+use lib.ListN.{length-replicate}
 use lib.Seq.{sets, sets-eq}
 use Rattle.cell.specs.Ranges.{row_width}
-use Rattle.text.specs.declared.card.CardRead.{CardRead}
+use Rattle.text.specs.Reads.{CardRead}
 use Rattle.text.specs.Cards.{parse, card_result, soil_result}
 use Rattle.text.proofs.CardTexts.{cells_most, card_next, result_line, result_card, result_soil}
 use Rattle.journal.specs.Book.{cleared_text, input_limit, book_of, room_for, BookGives}
@@ -34,6 +26,13 @@ module _ (s b : List ℕ) where
           buffer_is = q ∙ sets-eq (book_of s) b 0 (omega (arith, book_fits)) ∙ rw (e, zero-add (length (book_of s)));
         }
 
+    -- a line that is the whole book
+    pub line_fits : (t : List ℕ) → book_of s ≡ t → 0 + length t ≤ length b
+    line_fits t p = omega (arith, ap length p, book_fits)
+
+    pub line_written : (t : List ℕ) (n : ℕ) (after : List ℕ) → book_of s ≡ t → n ≡ 0 + length t → after ≡ sets b 0 t → BookGives s b n after
+    line_written t n after p q r = written n after (q ∙ zero-add (length t) ∙ ap length (sym p)) (r ∙ ap (sets b 0) (sym p))
+
 -- the first k of n zeros are k zeros
 pub fewer_zeros : (k n : ℕ) → k ≤ n → take k (replicate {A = ℕ} n 0) ≡ replicate k 0
 fewer_zeros zero n h = refl
@@ -50,6 +49,10 @@ module _ (s : List ℕ) (r : CardRead) (v : List ℤ) (e : r ≡ card_result (pa
 
   pub line_is : r.line ≡ (parse s).line
   line_is = result_line s zeros wide r e
+
+  -- room for 256 cells is room for each card that is well formed
+  pub refused : ¬ (r.number ≡ 0) → ¬ ((parse s).line ≡ 0)
+  refused n z = n (ap (λ (x : CardRead). x.number) (result_card s zeros wide r e z))
 
   module _ (z : r.line ≡ 0) where
     no_line : (parse s).line ≡ 0

@@ -1,10 +1,7 @@
 -- The N of `code=12 line=N` is one more than the line ends before line N, for every journal. Assumes nothing.
-use Rattle.std.specs.Prelude.{◌≡◌, Bool, true, false, ℕ, ◌+◌, ◌≤◌, ◌<◌, eqb, drop}
-use Rattle.std.proofs.Math.Path.{refl}
-use Rattle.std.proofs.Common.{sym, ap, ◌∙◌, arith, eqb-true, take-append-drop}
-use mathlib.Core.List.{List, ◌++◌, append_assoc, append-nil}
+use Rattle.std.specs.Prelude.{◌≡◌, Bool, true, false, ℕ, ◌+◌, ◌≤◌, ◌<◌, eqb, drop, refl, List, ◌++◌, length}
+use Rattle.std.proofs.Common.{sym, ap, ◌∙◌, arith, eqb-true, take-append-drop, append_assoc, append-nil}
 use Rattle.std.proofs.lemmas.Bool.{eqb-false}
-use Rattle.std.proofs.Math.ListN.{length}
 use Rattle.form.specs.Ends.{line_ends}
 use Rattle.form.specs.EndLaws.{ends_append}
 use Rattle.cell.specs.declared.Card.{Card}

@@ -1,6 +1,6 @@
 -- Two results that meet the contract, as the check itself reads it, are equal, and so are two exits of the buffer. Assumes nothing.
 -- a holds the arguments, and x, x' the parameters at exit, in the order of the signature.
-use mathlib.Core.Path.{◌≡◌, sym, ◌∙◌}
+use Rattle.std.proofs.Common.{◌≡◌, sym, ◌∙◌}
 use contract.Lifetimes.{Lfts}
 use denote.Triple.Clauses.{AtExit}
 use borrow.Fn.Kinds.{Dens, res_t, ended_of}

@@ -1,6 +1,6 @@
 -- The entries of a journal, readings and voids, read first, then answered. Definitions only.
 use Rattle.std.specs.Prelude.{ℕ, zero, suc, Bool, true, false, cond, List, [], ◌∷◌, ◌++◌, map, eqb, ℤ, length, drop}
-use Rattle.cell.specs.declared.Answer.{Answer}
+use Rattle.cell.specs.Answers.{Answer}
 use Rattle.cell.specs.declared.Card.{Card}
 use Rattle.cell.specs.declared.Entry.{Entry}
 use Rattle.cell.specs.Ranges.{cell_of}

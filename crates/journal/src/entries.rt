@@ -7,6 +7,7 @@ ghost use Rattle.journal.specs.Book.{entries_text};
 use crate::lines;
 use cell::Card;
 use site::Sheet;
+use text::Read;
 
 // Writes a line for each entry of s and the sheet; `first` is the number of the line that stands first in s.
 pub fn put_entries(
@@ -23,20 +24,18 @@ pub fn put_entries(
         × (out.new ≡ sets out.old 0 (entries_text (length s.now) card soil.now rows.old no_steps first s.now)) }
 {
     let mut sheet = Sheet::new();
-    let mut at = 0;
+    let mut rest = s;
     let mut line = first;
     let mut end = 0;
-    while at < s.len() {
-        let x = text::entry::read(&s[at..]);
-        if x.number != 0 {
+    while !rest.is_empty() {
+        let Ok(Read { taken, value }) = text::entry::read(rest) else {
             return lines::put_malformed(line, out, end);
-        }
-        let e = x.entry;
-        let answer = site::step(card, soil, rows, e);
-        end = lines::put_answer(e, answer, out, end);
+        };
+        let answer = site::step(card, soil, rows, value);
+        end = lines::put_answer(value, answer, out, end);
         let added = sheet.add(answer);
         sheet = added.sheet;
-        at += x.taken;
+        rest = &rest[taken..];
         line += 1;
     }
     lines::put_sheet(sheet, out, end)

@@ -6,6 +6,7 @@ ghost use Rattle.std.proofs.lemmas.List.Edits.{sets};
 ghost use Rattle.journal.specs.Book.{cleared_text, room_for, BookGives};
 
 use cell::Card;
+use text::Read;
 
 mod entries;
 mod lines;
@@ -14,10 +15,7 @@ mod lines;
 fn has_room(len: usize, room: usize) -> bool
     ensures { result ≡ leb (room_for len) room }
 {
-    if room < 300 {
-        return false;
-    }
-    len <= (room - 300) / 5
+    300 <= room && len <= (room - 300) / 5
 }
 
 // Clears the site, then writes a line for each entry of `rest` and the sheet.
@@ -26,11 +24,10 @@ fn cleared(card: Card, soil: &[i64], rows: &mut [u32], rest: &[u8], out: &mut [u
     ensures { (result ≡ length (cleared_text card soil.now rows.old rest.now))
         × (out.new ≡ sets out.old 0 (cleared_text card soil.now rows.old rest.now)) }
 {
-    let number = site::clear(card, rows);
-    if number != 0 {
-        return lines::put_code(number, out, 0);
+    match site::clear(card, rows) {
+        Err(why) => lines::put_code(why, out, 0),
+        Ok(()) => entries::put_entries(card, soil, rows, rest, card.cells as usize + 2, out),
     }
-    entries::put_entries(card, soil, rows, rest, card.cells as usize + 2, out)
 }
 
 // Writes the book of the input at the start of out, and returns its length; 0 where out has not 5 bytes for each of the input and 300 more.
@@ -44,20 +41,19 @@ pub fn book(input: &[u8], out: &mut [u8]) -> usize
         return lines::put_malformed(0, out, 0);
     }
     let mut soil = [0i64; 1280];
-    let c = text::card::read(input, &mut soil);
-    if c.line != 0 {
-        return lines::put_malformed(c.line, out, 0);
-    }
+    let (taken, card) = match text::card::read(input, &mut soil) {
+        Ok(Read { taken, value }) => (taken, value),
+        Err(why) => return lines::put_malformed(why.line(), out, 0),
+    };
     let mut rows = [0u32; 9216];
-    let cells = c.card.cells as usize;
+    let cells = card.cells as usize;
     let soil_end = 5 * cells;
     let rows_end = 36 * cells;
-    let from = c.taken;
     cleared(
-        c.card,
+        card,
         &soil[..soil_end],
         &mut rows[..rows_end],
-        &input[from..],
+        &input[taken..],
         out,
     )
 }

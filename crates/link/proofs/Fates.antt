@@ -1,18 +1,11 @@
 -- What became of what the node made: accepted, still held, or emptied by a swap. Assumes nothing.
-use mathlib.Core.Path.{◌≡◌, ap, ◌∙◌}
-use mathlib.Core.Logic.{◌⊎◌, inl, inr}
-use mathlib.Core.List.{List, [], ◌∷◌, ◌++◌, map}
-use Prim.Native.Nat.{ℕ, ◌+◌, ◌-◌, ◌≤◌, ◌<◌}
-use native.Mathlib.Decide.{ℕ_discrete, dec_le}
-use native.Mathlib.Omega.{arith}
-use lib.ListN.{length, length-append}
+use Rattle.std.proofs.Common.{◌≡◌, ap, ◌∙◌, ◌⊎◌, inl, inr, List, [], ◌∷◌, ◌++◌, ℕ, ◌+◌, ◌-◌, ◌≤◌, ◌<◌, arith, length, length-append}
+use Rattle.std.proofs.Math.Decide.{ℕ_discrete, dec_le}
 use Rattle.cell.specs.declared.Entry.{Entry}
 use Rattle.cell.specs.declared.Notice.{Notice}
-use Rattle.outbox.specs.declared.Place.{Place}
-use Rattle.outbox.specs.Outbox.{place}
-use Rattle.outbox.specs.Counts.{Among, held_entry, counted_has}
+use Rattle.outbox.specs.Counts.{itself, Among, counted_has}
 use Rattle.link.specs.Lists.{life_in, count_in, of_life}
-use Rattle.link.proofs.Lists.{among_left, among_right, among_map, life_longer, life_without}
+use Rattle.link.proofs.Lists.{among_left, among_right, life_longer, life_without}
 use Rattle.link.proofs.Node.{Node}
 
 -- a swap emptied the entry of this life and count
@@ -20,19 +13,19 @@ abbrev pub Emptied : List Entry → ℕ → ℕ → Type 0
 Emptied emptied l i = (x : Entry) × Among x emptied × (life_in x ≡ l) × (count_in x ≡ i)
 
 -- of the present life all below the oldest count were accepted; of an earlier one each was accepted or emptied by a swap
-pub record Accounted (made accepted emptied : List Entry) (cell life next held : ℕ) (ps : List Place) : Type 0 where
+pub record Accounted (made accepted emptied : List Entry) (cell life next held : ℕ) (ps : List Entry) : Type 0 where
   pub oldest : next - length ps ≤ length (of_life life accepted)
   pub past : (l : ℕ) → l < life → (i : ℕ) → i < length (of_life l made) → (i < length (of_life l accepted)) ⊎ Emptied emptied l i
 
 pub accounted_start : (cell : ℕ) → Accounted [] [] [] cell 0 0 0 []
 accounted_start cell = record { oldest = omega arith; past = λ l h. absurd (omega arith) }
 
-module _ {made accepted emptied : List Entry} {cell life next held : ℕ} {ps : List Place} (v : Accounted made accepted emptied cell life next held ps) where
+module _ {made accepted emptied : List Entry} {cell life next held : ℕ} {ps : List Entry} (v : Accounted made accepted emptied cell life next held ps) where
   -- a new entry
-  pub accounted_adds : (e : Entry) → life_in e ≡ life → Accounted (made ++ (e ∷ [])) accepted emptied cell life (next + 1) (length (ps ++ (place e ∷ []))) (ps ++ (place e ∷ []))
+  pub accounted_adds : (e : Entry) → life_in e ≡ life → Accounted (made ++ (e ∷ [])) accepted emptied cell life (next + 1) (length (ps ++ (e ∷ []))) (ps ++ (e ∷ []))
   accounted_adds e q =
       record {
-        oldest = omega (arith, v.oldest, length-append ps (place e ∷ []));
+        oldest = omega (arith, v.oldest, length-append ps (e ∷ []));
         past = λ l h i k. v.past l h i (rw (life_without l made e (λ z. omega arith)) at k);
       }
 
@@ -45,27 +38,27 @@ module _ {made accepted emptied : List Entry} {cell life next held : ℕ} {ps : 
       go l i (inr x) = inr x
 
   -- others held, the oldest of them at a count up to which all were accepted
-  pub accounted_holds : (qs : List Place) → next - length qs ≤ length (of_life life accepted) → Accounted made accepted emptied cell life next (length qs) qs
+  pub accounted_holds : (qs : List Entry) → next - length qs ≤ length (of_life life accepted) → Accounted made accepted emptied cell life next (length qs) qs
   accounted_holds qs h = record { oldest = h; past = v.past }
 
   -- a higher life
   module _ {mine : ℕ} {voids : List Entry} (n : Node mine made voids cell life next held ps) (l' : ℕ) (higher : life < l') where
     abbrev after : List Entry
-    after = emptied ++ map held_entry ps
+    after = emptied ++ ps
 
-    taken_along : (p : Place) (i : ℕ) → Among p ps → life_in p.entry ≡ life → count_in p.entry ≡ i → Emptied after life i
-    taken_along p i m a b = (p.entry, among_right p.entry emptied (map held_entry ps) (among_map held_entry p ps m), a, b)
+    taken_along : (p : Entry) (i : ℕ) → Among p ps → life_in p ≡ life → count_in p ≡ i → Emptied after life i
+    taken_along p i m a b = (p, among_right p emptied ps m, a, b)
 
     of_this : (i : ℕ) → i < next → Dec (next - length ps ≤ i) → (i < length (of_life life accepted)) ⊎ Emptied after life i
     of_this i h (no k) = inl (omega (arith, v.oldest))
     of_this i h (yes k) =
-        let r = counted_has held_entry cell life (next - length ps) ps n.counts (i - (next - length ps)) (omega (arith, n.reach)) in
+        let r = counted_has itself cell life (next - length ps) ps n.counts (i - (next - length ps)) (omega (arith, n.reach)) in
         let c : next - length ps + (i - (next - length ps)) ≡ i = omega arith in
         inr (taken_along r.0 i r.1 (ap (λ (q : Notice). q.life) r.2) (ap (λ (q : Notice). q.count) r.2 ∙ c))
 
     more : (l i : ℕ) → (i < length (of_life l accepted)) ⊎ Emptied emptied l i → (i < length (of_life l accepted)) ⊎ Emptied after l i
     more l i (inl k) = inl k
-    more l i (inr (x, m, a, b)) = inr (x, among_left x emptied (map held_entry ps) m, a, b)
+    more l i (inr (x, m, a, b)) = inr (x, among_left x emptied ps m, a, b)
 
     of_each : (l i : ℕ) → i < length (of_life l made) → Dec (l ≡ life) → Dec (life ≤ l) → (i < length (of_life l accepted)) ⊎ Emptied after l i
     of_each l i k (yes e) d =

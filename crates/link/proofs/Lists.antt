@@ -1,13 +1,6 @@
 -- Laws of lists of entries: what stands among them, those of a life, counts that run on, and first parts. Assumes nothing.
-use mathlib.Core.Path.{◌≡◌, refl, sym, ap, ◌∙◌}
-use mathlib.Core.Bool.{Bool, true, false, cond}
-use mathlib.Core.Logic.{◌⊎◌, inl, inr}
-use mathlib.Core.List.{List, [], ◌∷◌, ◌++◌, append-nil, map}
-use Prim.Native.Nat.{ℕ, zero, suc, ◌≤◌, ◌<◌}
-use native.Mathlib.Omega.{arith}
-use borrow.Author.Tests.{eq-eqb, ne_eqb}
-use lib.Dec.{eqb}
-use lib.ListN.{length, take, drop, length-append}
+use Rattle.std.proofs.Common.{◌≡◌, refl, sym, ap, ◌∙◌, Bool, true, false, cond, ◌⊎◌, inl, inr, List, [], ◌∷◌, ◌++◌, append-nil, ℕ, zero, suc, ◌≤◌, ◌<◌, arith, eq-eqb, eqb, length, take, drop, length-append}
+use Rattle.std.proofs.lemmas.Bool.{ne_eqb}
 use Rattle.cell.specs.declared.Entry.{Entry}
 use Rattle.outbox.specs.Counts.{Among}
 use Rattle.link.specs.Lists.{life_in, At, of_life, Holds, FirstPart}
@@ -68,16 +61,6 @@ pub at_some : {A : Type 0} (xs : List A) (n : ℕ) → n < length xs → (x : A)
 at_some [] n h = absurd (omega arith)
 at_some (y ∷ xs) zero h = (y, refl)
 at_some (y ∷ xs) (suc n) h = at_some xs n (omega arith)
-
-pub among_map : {A B : Type 0} (f : A → B) (x : A) (xs : List A) → Among x xs → Among (f x) (map f xs)
-among_map {A = A} {B = B} f x [] x0 = elim x0 [ ]
-among_map f x (y ∷ xs) (inl e) = inl (ap f e)
-among_map f x (y ∷ xs) (inr m) = inr (among_map f x xs m)
-
-pub map_among : {A B : Type 0} (f : A → B) (y : B) (xs : List A) → Among y (map f xs) → (x : A) × Among x xs × (y ≡ f x)
-map_among {A = A} {B = B} f y [] x1 = elim x1 [ ]
-map_among f y (x ∷ xs) (inl e) = (x, inl refl, e)
-map_among f y (x ∷ xs) (inr m) = let r = map_among f y xs m in (r.0, inr r.1, r.2)
 
 -- ---- of a life
 pub life_append : (l : ℕ) (xs ys : List Entry) → of_life l (xs ++ ys) ≡ of_life l xs ++ of_life l ys

@@ -1,16 +1,10 @@
 -- The node's side: what is known of its outbox, of all that it made, and of the voids that it put in place. Assumes nothing.
-use mathlib.Core.Path.{◌≡◌, refl, ap, ◌∙◌}
-use mathlib.Core.Logic.{◌⊎◌, inl, inr}
-use mathlib.Core.List.{List, [], ◌∷◌, ◌++◌}
-use Prim.Native.Nat.{ℕ, ◌+◌, ◌-◌, ◌≤◌, ◌<◌}
-use native.Mathlib.Omega.{arith}
-use lib.ListN.{length, drop, length-append, length-drop}
+use Rattle.std.proofs.Common.{◌≡◌, refl, ap, ◌∙◌, ◌⊎◌, inl, inr, List, [], ◌∷◌, ◌++◌, ℕ, ◌+◌, ◌-◌, ◌≤◌, ◌<◌, arith, length, drop, length-append, length-drop}
 use Rattle.cell.specs.declared.Entry.{Entry}
 use Rattle.cell.specs.declared.Notice.{Notice}
-use Rattle.outbox.specs.declared.Place.{Place}
 use Rattle.cell.specs.Ranges.{notice_of}
-use Rattle.outbox.specs.Outbox.{notice, void_of, place}
-use Rattle.outbox.specs.Counts.{Among, held_entry, Counted, counted_more, counted_drop}
+use Rattle.outbox.specs.Outbox.{notice, void_of}
+use Rattle.outbox.specs.Counts.{itself, Among, Counted, counted_more, counted_drop}
 use Rattle.link.specs.Lists.{life_in, count_in, At, of_life, Holds}
 use Rattle.link.proofs.Lists.{among_right, among_either, among_drop, at_left, at_end_lem, life_append, life_with, life_without, holds_more}
 
@@ -37,21 +31,21 @@ void_in_place made voids e p = record { was = p.was; at = p.at; held = inr (go p
     go (inr h) = ap void_of h.0
 
 -- the outbox of `mine`: as many were made in its life as its next count, none in a higher life; it holds entries with counts up to the next one, each in its place
-pub record Node (mine : ℕ) (made voids : List Entry) (cell life next held : ℕ) (ps : List Place) : Type 0 where
+pub record Node (mine : ℕ) (made voids : List Entry) (cell life next held : ℕ) (ps : List Entry) : Type 0 where
   pub own : cell ≡ mine
   pub made_so_far : length (of_life life made) ≡ next
   pub unused : (l : ℕ) → life < l → of_life l made ≡ []
   pub whole : held ≡ length ps
   pub reach : length ps ≤ next
-  pub counts : Counted held_entry cell life (next - length ps) ps
-  pub placed : (p : Place) → Among p ps → InPlace made voids p.entry
+  pub counts : Counted itself cell life (next - length ps) ps
+  pub placed : (p : Entry) → Among p ps → InPlace made voids p
 
 pub node_start : (cell : ℕ) → Node cell [] [] cell 0 0 0 []
 node_start cell = record { own = refl; made_so_far = refl; unused = λ l h. refl; whole = refl; reach = omega arith; counts = tt; placed = λ p m. absurd m }
 
-module _ {mine : ℕ} {made voids : List Entry} {cell life next held : ℕ} {ps : List Place} (v : Node mine made voids cell life next held ps) where
+module _ {mine : ℕ} {made voids : List Entry} {cell life next held : ℕ} {ps : List Entry} (v : Node mine made voids cell life next held ps) where
   -- a new entry
-  pub node_adds : (e : Entry) → notice_of e ≡ notice cell life next → Node mine (made ++ (e ∷ [])) voids cell life (next + 1) (length (ps ++ (place e ∷ []))) (ps ++ (place e ∷ []))
+  pub node_adds : (e : Entry) → notice_of e ≡ notice cell life next → Node mine (made ++ (e ∷ [])) voids cell life (next + 1) (length (ps ++ (e ∷ []))) (ps ++ (e ∷ []))
   node_adds e q =
       record {
         own = v.own;
@@ -59,12 +53,12 @@ module _ {mine : ℕ} {made voids : List Entry} {cell life next held : ℕ} {ps 
         unused = λ l h. life_without l made e (λ k. omega (arith, of_life_lem)) ∙ v.unused l h;
         whole = refl;
         reach = omega (arith, v.reach, longer);
-        counts = let c : (next + 1) - length (ps ++ (place e ∷ [])) ≡ next - length ps = omega (arith, longer, v.reach) in rw c (counted_more held_entry cell life (next - length ps) ps (place e) v.counts (let k : next - length ps + length ps ≡ next = omega (arith, v.reach) in rw k q));
-        placed = λ p m. either p (among_either p ps (place e ∷ []) m);
+        counts = let c : (next + 1) - length (ps ++ (e ∷ [])) ≡ next - length ps = omega (arith, longer, v.reach) in rw c (counted_more itself cell life (next - length ps) ps e v.counts (let k : next - length ps + length ps ≡ next = omega (arith, v.reach) in rw k q));
+        placed = λ p m. either p (among_either p ps (e ∷ []) m);
       }
     where
-      longer : length (ps ++ (place e ∷ [])) ≡ length ps + 1
-      longer = length-append ps (place e ∷ [])
+      longer : length (ps ++ (e ∷ [])) ≡ length ps + 1
+      longer = length-append ps (e ∷ [])
 
       of_life_lem : life_in e ≡ life
       of_life_lem = ap (λ (n : Notice). n.life) q
@@ -80,9 +74,9 @@ module _ {mine : ℕ} {made voids : List Entry} {cell life next held : ℕ} {ps 
             held = inl refl;
           }
 
-      either : (p : Place) → Among p ps ⊎ Among p (place e ∷ []) → InPlace (made ++ (e ∷ [])) voids p.entry
+      either : (p : Entry) → Among p ps ⊎ Among p (e ∷ []) → InPlace (made ++ (e ∷ [])) voids p
       either p (inr (inr x0)) = elim x0 [ ]
-      either p (inl m) = stays_made made (e ∷ []) voids p.entry (v.placed p m)
+      either p (inl m) = stays_made made (e ∷ []) voids p (v.placed p m)
       either p (inr (inl k)) = rw k new
 
   -- what it holds from place k on
@@ -94,7 +88,7 @@ module _ {mine : ℕ} {made voids : List Entry} {cell life next held : ℕ} {ps 
         unused = v.unused;
         whole = refl;
         reach = omega (arith, v.reach, length-drop k ps);
-        counts = let c : next - length (drop k ps) ≡ next - length ps + k = omega (arith, v.reach, length-drop k ps) in rw c (counted_drop held_entry cell life (next - length ps) k ps v.counts);
+        counts = let c : next - length (drop k ps) ≡ next - length ps + k = omega (arith, v.reach, length-drop k ps) in rw c (counted_drop itself cell life (next - length ps) k ps v.counts);
         placed = λ p m. v.placed p (among_drop p k ps m);
       }
 
@@ -112,8 +106,8 @@ module _ {mine : ℕ} {made voids : List Entry} {cell life next held : ℕ} {ps 
       }
 
 -- a void in place of the oldest
-pub node_voids : {mine : ℕ} {made voids : List Entry} {cell life next held : ℕ} (p : Place) (ps : List Place) → Node mine made voids cell life next held (p ∷ ps)
-    → Node mine made (voids ++ (void_of p.entry ∷ [])) cell life next (length (p ∷ ps)) (place (void_of p.entry) ∷ ps)
+pub node_voids : {mine : ℕ} {made voids : List Entry} {cell life next held : ℕ} (p : Entry) (ps : List Entry) → Node mine made voids cell life next held (p ∷ ps)
+    → Node mine made (voids ++ (void_of p ∷ [])) cell life next (length (p ∷ ps)) (void_of p ∷ ps)
 node_voids {mine} {made} {voids} p ps v =
     record {
       own = v.own;
@@ -125,6 +119,6 @@ node_voids {mine} {made} {voids} p ps v =
       placed = standing;
     }
   where
-    standing : (q : Place) → Among q (place (void_of p.entry) ∷ ps) → InPlace made (voids ++ (void_of p.entry ∷ [])) q.entry
-    standing q (inl k) = rw k (void_in_place made voids p.entry (v.placed p (inl refl)))
-    standing q (inr m) = stays_voids made voids (void_of p.entry ∷ []) q.entry (v.placed q (inr m))
+    standing : (q : Entry) → Among q (void_of p ∷ ps) → InPlace made (voids ++ (void_of p ∷ [])) q
+    standing q (inl k) = rw k (void_in_place made voids p (v.placed p (inl refl)))
+    standing q (inr m) = stays_voids made voids (void_of p ∷ []) q (v.placed q (inr m))

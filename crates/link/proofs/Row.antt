@@ -1,20 +1,12 @@
 -- The gateway's side: what is known of all that it accepted, from its row's life and next count. Assumes nothing.
-use mathlib.Core.Path.{◌≡◌, refl, ap, ◌∙◌}
-use mathlib.Core.Logic.{◌⊎◌, inl, inr}
-use mathlib.Core.List.{List, [], ◌∷◌, ◌++◌}
-use Prim.Native.Nat.{ℕ, ◌+◌, ◌≤◌, ◌<◌}
-use native.Mathlib.Decide.{ℕ_discrete}
-use native.Mathlib.Omega.{arith}
-use lib.ListN.{length, length-append}
+use Rattle.std.proofs.Common.{◌≡◌, refl, ap, ◌∙◌, ◌⊎◌, inl, inr, List, [], ◌∷◌, ◌++◌, ℕ, ◌+◌, ◌≤◌, ◌<◌, arith, length, length-append}
+use Rattle.std.proofs.Math.Decide.{ℕ_discrete}
 use Rattle.cell.specs.declared.Entry.{Entry}
 use Rattle.cell.specs.Ranges.{notice_of}
 use Rattle.outbox.specs.Laws.{notice_is}
-use Rattle.outbox.specs.Counts.{Counted, counted_more}
+use Rattle.outbox.specs.Counts.{itself, Counted, counted_more}
 use Rattle.link.specs.Lists.{life_in, count_in, of_life}
 use Rattle.link.proofs.Lists.{life_with, life_without}
-
-abbrev pub itself : Entry → Entry
-itself e = e
 
 -- of each life the counts 0, 1, 2, ..; of the row's life as many as its next count, and none of a higher life; a row with none in its life is a cleared one
 pub record Row (cell : ℕ) (accepted : List Entry) (life next : ℕ) : Type 0 where

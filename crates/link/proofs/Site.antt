@@ -1,18 +1,17 @@
 -- [4] THE LINK, at the site as built: a fresh outbox, a cleared row, and any calls of `site::step`. Assumes nothing.
+use Rattle.std.specs.Prelude.{Ok, Err}
 use mathlib.Core.Path.{◌≡◌, refl, sym, ap, subst, ◌∙◌}
 use mathlib.Core.Bool.{true, false, ◌&&◌, and-eq-true_iff}
 use mathlib.Core.Logic.{◌⊎◌, inl, inr}
 use mathlib.Core.List.{List, [], ◌∷◌}
 use Prim.Native.Nat.{ℕ, ◌+◌, ◌<◌}
 use native.Mathlib.Decide.{ℕ_discrete}
-use native.Mathlib.Omega.{arith}
 use borrow.Author.Tests.{eqb-true, eq-eqb}
 use lib.Dec.{eqb}
 use lib.IntN.{ℤ}
 use lib.ListN.{replicate}
+use Rattle.cell.specs.Answers.{Answer}
 use Rattle.cell.specs.declared.Amounts.{Amounts}
-use Rattle.cell.specs.declared.Answer.{Answer}
-use Rattle.cell.specs.declared.Answer.TheVariants.{Accepted, Refused}
 use Rattle.cell.specs.declared.Card.{Card}
 use Rattle.cell.specs.declared.Entry.{Entry}
 use Rattle.cell.specs.declared.Notice.{Notice}
@@ -26,9 +25,8 @@ use Rattle.site.specs.Site.{soil_width, soil_fits, rows_fit, cell_fits, site_ans
 use Rattle.site.proofs.SiteLaws.{row_answer, own_row, other_row, rows_stay, cleared_part}
 use Rattle.account.specs.Run.{Call, row_of}
 use Rattle.account.proofs.Demand3.{void_passes}
-use Rattle.outbox.specs.declared.Offered.TheVariants.{Oldest}
+use Rattle.outbox.specs.Outbox.{Oldest}
 use Rattle.outbox.specs.declared.Outbox.{Outbox}
-use Rattle.outbox.specs.declared.Place.{Place}
 use Rattle.outbox.specs.Outbox.{void_of, held_of, offer_of, replaced_of, fresh_of, is_next, swapped_of}
 use Rattle.outbox.proofs.CallLaws.{Reaches}
 use Rattle.outbox.specs.Counts.{Among}
@@ -50,7 +48,7 @@ module _ (card : Card) (p : ℕ) (rows after : List ℕ) (c : Call) where
   pub record Accepts : Type 0 where
     pub own : cell_of e ≡ p
     pub amounts : Amounts
-    pub answer : site_answer card c.soil rows e ≡ Accepted amounts
+    pub answer : site_answer card c.soil rows e ≡ Ok amounts
     pub rows_after : site_rows card c.soil rows e ≡ after
 
   accepts_it : Given card p rows c true after → Accepts
@@ -60,8 +58,8 @@ module _ (card : Card) (p : ℕ) (rows after : List ℕ) (c : Call) where
       both = (and-eq-true_iff (eqb (cell_of e) p) (accepts g.answer)).0 (sym g.taken_is)
 
       go : (b : Answer) → g.answer ≡ b → Accepts
-      go (Accepted a) q = record { own = eqb-true (cell_of e) p both.0; amounts = a; answer = (by_contract g.gives).0 ∙ q; rows_after = (by_contract g.gives).1 }
-      go (Refused why) q = let z : false ≡ true = ap accepts (sym q) ∙ both.1 in let y : ◌≡◌ {A = ℕ} 0 1 = cc in absurd (omega arith)
+      go (Ok a) q = record { own = eqb-true (cell_of e) p both.0; amounts = a; answer = (by_contract g.gives).0 ∙ q; rows_after = (by_contract g.gives).1 }
+      go (Err why) q = let z : false ≡ true = ap accepts (sym q) ∙ both.1 in cc
 
   module _ (a : Accepts) where
     abbrev soil : List ℤ
@@ -87,9 +85,9 @@ module _ (card : Card) (p : ℕ) (rows after : List ℕ) (c : Call) where
   stays g = go g.answer (by_contract g.gives).0 (sym g.taken_is) (ℕ_discrete (cell_of e) p)
     where
       go : (b : Answer) → site_answer card c.soil rows e ≡ b → (eqb (cell_of e) p && accepts b) ≡ false → Dec (cell_of e ≡ p) → row_of card p after ≡ row_of card p rows
-      go (Refused why) q t d = ap (row_of card p) (sym (by_contract g.gives).1 ∙ rows_stay card c.soil rows e why q)
-      go (Accepted a) q t (no n) = ap (row_of card p) (sym (by_contract g.gives).1) ∙ other_row card c.soil rows e a q p n
-      go (Accepted a) q t (yes k) = let z : true ≡ false = sym (rw (eq-eqb (cell_of e) p k)) ∙ t in let y : ◌≡◌ {A = ℕ} 0 1 = cc in absurd (omega arith)
+      go (Err why) q t d = ap (row_of card p) (sym (by_contract g.gives).1 ∙ rows_stay card c.soil rows e why q)
+      go (Ok a) q t (no n) = ap (row_of card p) (sym (by_contract g.gives).1) ∙ other_row card c.soil rows e a q p n
+      go (Ok a) q t (yes k) = let z : true ≡ false = sym (rw (eq-eqb (cell_of e) p k)) ∙ t in cc
 
 pub orderly : (card : Card) (p : ℕ) → Orderly p (site_gateway card p)
 orderly card p =
@@ -101,7 +99,7 @@ orderly card p =
     }
 
 -- ---- a run starts from a fresh outbox and a row that was cleared
-pub from_cleared : (card : Card) (p : ℕ) {rows cleared : List ℕ} → (fresh_of p).number ≡ 0 → ClearGives card rows 0 cleared → p < card.cells → Run p (site_gateway card p) (first p (site_gateway card p) cleared)
+pub from_cleared : (card : Card) (p : ℕ) {rows cleared : List ℕ} → (fresh_of p).number ≡ 0 → ClearGives card rows (Ok tt) cleared → p < card.cells → Run p (site_gateway card p) (first p (site_gateway card p) cleared)
 from_cleared card p {rows} {cleared} f g h =
     let e : row_of card p cleared ≡ replicate (row_width card) 0 = ap (row_of card p) g.rows_are ∙ cleared_part card rows (sym g.number_is) p h in
     starts cleared f (ap life_of e ∙ cleared_life (row_width card)) (ap next_of e ∙ cleared_next (row_width card))
@@ -119,13 +117,13 @@ pub record VoidTaken (card : Card) (soil : List ℤ) (rows : List ℕ) (b : Outb
   pub offered : offer_of (replaced_of b).outbox ≡ Oldest (void_of e)
   pub amounts : Amounts
   pub after : List ℕ
-  pub taken : SiteGives card soil rows (void_of e) (Accepted amounts) after
+  pub taken : SiteGives card soil rows (void_of e) (Ok amounts) after
 
-pub way_out : (card : Card) (soil : List ℤ) (rows : List ℕ) (b : Outbox) → InForm b → (p : Place) (ps : List Place) → held_of b ≡ p ∷ ps
-    → Good card soil rows (void_of p.entry) → InOrder (life_of (row_of card (cell_of p.entry) rows)) (next_of (row_of card (cell_of p.entry) rows)) (notice_of p.entry)
-    → VoidTaken card soil rows b p.entry
+pub way_out : (card : Card) (soil : List ℤ) (rows : List ℕ) (b : Outbox) → InForm b → (p : Entry) (ps : List Entry) → held_of b ≡ p ∷ ps
+    → Good card soil rows (void_of p) → InOrder (life_of (row_of card (cell_of p) rows)) (next_of (row_of card (cell_of p) rows)) (notice_of p)
+    → VoidTaken card soil rows b p
 way_out card soil rows b v p ps holds g o =
-    let n = notice_of p.entry in
+    let n = notice_of p in
     let k = oldest_in b v p ps holds in
     record {
       offered = void_offered b v p ps holds;
@@ -158,14 +156,14 @@ module _ (card : Card) (p : ℕ) {s : Moment (site_gateway card p)} (run : Run p
   in_form = link.in_form p (site_gateway card p) (orderly card p) run
 
   -- 4. the link never jams: the row's life and next count, sent now, remove the oldest, or the void that `replace` puts in its place is offered next and accepted
-  pub never_stuck : (soil : List ℤ) (q : Place) (qs : List Place) → held_of s.box ≡ q ∷ qs → Good card soil s.row (void_of q.entry)
-      → Reaches s.box (life_of (row_of card p s.row)) (next_of (row_of card p s.row)) ⊎ VoidTaken card soil s.row s.box q.entry
+  pub never_stuck : (soil : List ℤ) (q : Entry) (qs : List Entry) → held_of s.box ≡ q ∷ qs → Good card soil s.row (void_of q)
+      → Reaches s.box (life_of (row_of card p s.row)) (next_of (row_of card p s.row)) ⊎ VoidTaken card soil s.row s.box q
   never_stuck soil q qs holds g = go (link.never_stuck p (site_gateway card p) (orderly card p) run q qs holds)
     where
-      its_cell : p ≡ cell_of q.entry
+      its_cell : p ≡ cell_of q
       its_cell = sym (link.own_cell p (site_gateway card p) (orderly card p) run) ∙ sym (ap (λ (n : Notice). n.cell) (oldest_is s.box in_form q qs holds))
 
-      go : InOrder (life_of (row_of card p s.row)) (next_of (row_of card p s.row)) (notice_of q.entry) ⊎ Reaches s.box (life_of (row_of card p s.row)) (next_of (row_of card p s.row))
-          → Reaches s.box (life_of (row_of card p s.row)) (next_of (row_of card p s.row)) ⊎ VoidTaken card soil s.row s.box q.entry
+      go : InOrder (life_of (row_of card p s.row)) (next_of (row_of card p s.row)) (notice_of q) ⊎ Reaches s.box (life_of (row_of card p s.row)) (next_of (row_of card p s.row))
+          → Reaches s.box (life_of (row_of card p s.row)) (next_of (row_of card p s.row)) ⊎ VoidTaken card soil s.row s.box q
       go (inr r) = inl r
-      go (inl o) = inr (way_out card soil s.row s.box in_form q qs holds g (subst (λ (k : ℕ). InOrder (life_of (row_of card k s.row)) (next_of (row_of card k s.row)) (notice_of q.entry)) its_cell o))
+      go (inl o) = inr (way_out card soil s.row s.box in_form q qs holds g (subst (λ (k : ℕ). InOrder (life_of (row_of card k s.row)) (next_of (row_of card k s.row)) (notice_of q)) its_cell o))

@@ -1,31 +1,25 @@
 -- THE LINK. From a fresh outbox and a cleared row, however the link loses, repeats and reorders. Assumes of the gateway what `Orderly` says.
-use mathlib.Core.Path.{◌≡◌, refl, sym, ap, subst⁻¹, ◌∙◌}
-use mathlib.Core.Bool.{Bool, true, false, cond}
-use mathlib.Core.Logic.{◌⊎◌, inl, inr}
-use mathlib.Core.List.{List, [], ◌∷◌, ◌++◌, append-nil, map}
-use Prim.Native.Nat.{ℕ, ◌+◌, ◌-◌, ◌≤◌, ◌<◌}
-use native.Mathlib.Decide.{ℕ_discrete, dec_le}
-use native.Mathlib.Omega.{arith}
-use borrow.Author.Tests.{eq-eqb, ne_eqb}
-use lib.Dec.{ltb}
-use lib.ListN.{length, drop, length-drop}
+use Rattle.std.proofs.Common.{◌≡◌, refl, sym, ap, ◌∙◌, Bool, true, false, cond, ◌⊎◌, inl, inr, List, [], ◌∷◌, ◌++◌, append-nil, ℕ, ◌+◌, ◌-◌, ◌≤◌, ◌<◌, arith, eq-eqb, length, drop, length-drop}
+use Rattle.std.proofs.Math.Path.{subst⁻¹}
+use Rattle.std.proofs.lemmas.Bool.{ne_eqb}
+use Rattle.std.specs.Prelude.{ltb}
+use Rattle.std.proofs.Math.Decide.{ℕ_discrete, dec_le}
 use Rattle.cell.specs.declared.Entry.{Entry}
 use Rattle.cell.specs.declared.Notice.{Notice}
 use Rattle.cell.proofs.CheckLaws.{InOrder}
 use Rattle.cell.specs.Ranges.{notice_of, cell_of}
-use Rattle.outbox.specs.declared.Offered.TheVariants.{Oldest}
+use Rattle.outbox.specs.Outbox.{Oldest}
 use Rattle.outbox.specs.declared.Outbox.{Outbox}
-use Rattle.outbox.specs.declared.Place.{Place}
-use Rattle.outbox.specs.Outbox.{full, notice, void_of, place, held_of, oldest_of, box_of, is_next, offer_of, added_of, replaced_of, acknowledged_of, swapped_of}
+use Rattle.outbox.specs.Outbox.{full, notice, void_of, held_of, oldest_of, box_of, is_next, offer_of, added_of, replaced_of, acknowledged_of, swapped_of}
 use Rattle.outbox.specs.Brought.{brought}
 use Rattle.outbox.proofs.CallLaws.{Has, box_has, fresh_is, fresh_cell, Adds, adds, Offers, offers, Reaches, Removes, removes, Swaps, next_number}
 use Rattle.outbox.proofs.CallLaws as calls
 use Rattle.outbox.proofs.Kept.{InForm, fresh_form, add_form, replace_form, acknowledge_form, swap_form}
 use Rattle.outbox.specs.Laws.{held_is}
-use Rattle.outbox.specs.Counts.{Among, held_entry, counted_has}
+use Rattle.outbox.specs.Counts.{itself, Among, counted_has}
 use Rattle.link.specs.Lists.{life_in, count_in, At, of_life, Holds, FirstPart}
 use Rattle.link.specs.Run.{Gateway, Orderly, Ack, Moment, when, entries_in, first, making, voiding, sending, hearing, answering, learning, swapping, Told, Fate, Run, starts, makes, puts_void, sends, hears, answers, learns, swaps}
-use Rattle.link.proofs.Lists.{among_either, among_right, map_among, at_below, at_one, at_some, life_longer, life_with, life_without, first_at, first_length, first_next}
+use Rattle.link.proofs.Lists.{among_either, among_right, at_below, at_one, at_some, life_longer, life_with, life_without, first_at, first_length, first_next}
 use Rattle.link.proofs.Node.{InPlace, stays_made, stays_voids, Node, node_start, node_adds, node_drops, node_swaps, node_voids}
 use Rattle.link.proofs.Row.{row_start, row_takes, its_count}
 use Rattle.link.proofs.Told.{Heard, heard_made, heard_voids, told_some, told_none}
@@ -91,24 +85,24 @@ module _ (cell : ℕ) (G : Gateway) (O : Orderly cell G) where
         go : Adds s.box e (added_of s.box e) → Holding (making cell G s e)
         go (inl t) =
             rw (eq-eqb (added_of s.box e).number 0 t.0, t.2)
-            (with_made (e ∷ []) (box_of s.box.cell s.box.life (s.box.next + 1) (held_of s.box ++ (place e ∷ [])))
-            (box_has (Node cell (s.made ++ (e ∷ [])) s.voids) s.box.cell s.box.life (s.box.next + 1) (held_of s.box ++ (place e ∷ [])) (node_adds v.node e t.1))
-            (box_has (Accounted (s.made ++ (e ∷ [])) s.accepted s.emptied) s.box.cell s.box.life (s.box.next + 1) (held_of s.box ++ (place e ∷ []))
+            (with_made (e ∷ []) (box_of s.box.cell s.box.life (s.box.next + 1) (held_of s.box ++ (e ∷ [])))
+            (box_has (Node cell (s.made ++ (e ∷ [])) s.voids) s.box.cell s.box.life (s.box.next + 1) (held_of s.box ++ (e ∷ [])) (node_adds v.node e t.1))
+            (box_has (Accounted (s.made ++ (e ∷ [])) s.accepted s.emptied) s.box.cell s.box.life (s.box.next + 1) (held_of s.box ++ (e ∷ []))
             (accounted_adds v.fates e (ap (λ (n : Notice). n.life) t.1))))
         go (inr t) = rw (ne_eqb (added_of s.box e).number 0 t.0, t.1, append-nil s.made) v
 
     keeps_voiding : Holding (voiding cell G s)
     keeps_voiding = go (offers s.box)
       where
-        go : ((p : Place) × (ps : List Place) × Offers s.box p ps) ⊎ ((brought (offer_of s.box) ≡ []) × ((replaced_of s.box).outbox ≡ s.box)) → Holding (voiding cell G s)
+        go : ((p : Entry) × (ps : List Entry) × Offers s.box p ps) ⊎ ((brought (offer_of s.box) ≡ []) × ((replaced_of s.box).outbox ≡ s.box)) → Holding (voiding cell G s)
         go (inr t) = rw (t.0, t.1, append-nil s.voids) v
         go (inl (p, ps, o)) =
             rw (o.offers, o.replaces)
-            (with_voids (void_of p.entry ∷ []) (box_of s.box.cell s.box.life s.box.next (place (void_of p.entry) ∷ ps))
-            (box_has (Node cell s.made (s.voids ++ (void_of p.entry ∷ []))) s.box.cell s.box.life s.box.next (place (void_of p.entry) ∷ ps)
+            (with_voids (void_of p ∷ []) (box_of s.box.cell s.box.life s.box.next (void_of p ∷ ps))
+            (box_has (Node cell s.made (s.voids ++ (void_of p ∷ []))) s.box.cell s.box.life s.box.next (void_of p ∷ ps)
             (node_voids p ps (rw o.holds at v.node)))
-            (box_has (Accounted s.made s.accepted s.emptied) s.box.cell s.box.life s.box.next (place (void_of p.entry) ∷ ps)
-            (accounted_holds v.fates (place (void_of p.entry) ∷ ps) (rw o.holds at v.fates.oldest))))
+            (box_has (Accounted s.made s.accepted s.emptied) s.box.cell s.box.life s.box.next (void_of p ∷ ps)
+            (accounted_holds v.fates (void_of p ∷ ps) (rw o.holds at v.fates.oldest))))
 
     keeps_sending : (e : Entry) → Among e (entries_in s.box) → Holding (sending cell G s e)
     keeps_sending e h =
@@ -125,7 +119,7 @@ module _ (cell : ℕ) (G : Gateway) (O : Orderly cell G) where
         go : (x : Entry) → Among x s.sent ⊎ Among x (e ∷ []) → InPlace s.made s.voids x
         go x (inr (inr x3)) = elim x3 [ ]
         go x (inl m) = v.posted x m
-        go x (inr (inl k)) = let r = map_among held_entry e (held_of s.box) h in rw (k, r.2) (v.node.placed r.0 r.1)
+        go x (inr (inl k)) = rw k (v.node.placed e h)
 
     keeps_hearing : (c : G.Call) (taken : Bool) (h : G.State) → G.Gives s.row c taken h → Among (G.brings c) s.sent ⊎ ¬ (cell_of (G.brings c) ≡ cell) → Holding (hearing cell G s c taken h)
     keeps_hearing c taken h gives w =
@@ -211,12 +205,12 @@ module _ (cell : ℕ) (G : Gateway) (O : Orderly cell G) where
     keeps_swapping : (l : ℕ) → Holding (swapping cell G s l)
     keeps_swapping l = go (calls.swaps s.box l)
       where
-        held : List Place
+        held : List Entry
         held = held_of s.box
 
-        lost_then : (e : Entry) → Among e s.emptied ⊎ Among e (map held_entry held) → InPlace s.made s.voids e
+        lost_then : (e : Entry) → Among e s.emptied ⊎ Among e held → InPlace s.made s.voids e
         lost_then e (inl m) = v.lost e m
-        lost_then e (inr m) = let r = map_among held_entry e held m in rw r.2 (v.node.placed r.0 r.1)
+        lost_then e (inr m) = v.node.placed e m
 
         go : Swaps s.box l (swapped_of s.box l) → Holding (swapping cell G s l)
         go (inl t) = rw (ne_eqb (swapped_of s.box l).number 0 t.0, t.1, append-nil s.emptied) v
@@ -224,9 +218,9 @@ module _ (cell : ℕ) (G : Gateway) (O : Orderly cell G) where
             rw (eq-eqb (swapped_of s.box l).number 0 t.0, t.2)
             (record {
               node = box_has (Node cell s.made s.voids) s.box.cell l 0 [] (node_swaps v.node l t.1);
-              fates = box_has (Accounted s.made s.accepted (s.emptied ++ map held_entry held)) s.box.cell l 0 [] (accounted_swaps v.fates v.node l t.1);
+              fates = box_has (Accounted s.made s.accepted (s.emptied ++ held)) s.box.cell l 0 [] (accounted_swaps v.fates v.node l t.1);
               posted = v.posted;
-              lost = λ e m. lost_then e (among_either e s.emptied (map held_entry held) m);
+              lost = λ e m. lost_then e (among_either e s.emptied held m);
               now = v.now;
               acked = v.acked;
               reached = v.reached;
@@ -258,12 +252,12 @@ module _ (cell : ℕ) (G : Gateway) (O : Orderly cell G) where
   pub sends_offer : {s : Moment G} → Run cell G s → (e : Entry) → offer_of s.box ≡ Oldest e → Run cell G (sending cell G s e)
   sends_offer {s} r e o = go (offers s.box)
     where
-      go : ((p : Place) × (ps : List Place) × Offers s.box p ps) ⊎ ((brought (offer_of s.box) ≡ []) × ((replaced_of s.box).outbox ≡ s.box)) → Run cell G (sending cell G s e)
+      go : ((p : Entry) × (ps : List Entry) × Offers s.box p ps) ⊎ ((brought (offer_of s.box) ≡ []) × ((replaced_of s.box).outbox ≡ s.box)) → Run cell G (sending cell G s e)
       go (inl (p, ps, h)) =
-          let q : e ∷ [] ≡ p.entry ∷ [] = sym (ap brought o) ∙ h.offers in
-          let k : e ≡ p.entry = cc in
-          sends r e (subst⁻¹ (λ (xs : List Place). Among e (map held_entry xs)) h.holds (inl k))
-      go (inr t) = let z : e ∷ [] ≡ [] = sym (ap brought o) ∙ t.0 in let y : ◌≡◌ {A = ℕ} 0 1 = cc in absurd (omega arith)
+          let q : e ∷ [] ≡ p ∷ [] = sym (ap brought o) ∙ h.offers in
+          let k : e ≡ p = cc in
+          sends r e (subst⁻¹ (λ (xs : List Entry). Among e xs) h.holds (inl k))
+      go (inr t) = let z : e ∷ [] ≡ [] = sym (ap brought o) ∙ t.0 in cc
 
   -- and stays the cell's
   pub own_cell : {s : Moment G} → Run cell G s → s.box.cell ≡ cell
@@ -280,7 +274,7 @@ module _ (cell : ℕ) (G : Gateway) (O : Orderly cell G) where
       v : Holding s
       v = inv r
 
-      After : List Place → Type 0
+      After : List Entry → Type 0
       After = Told s.made s.voids a.heard (held_of s.box)
 
       go : Removes s.box a.life a.next (acknowledged_of s.box a.life a.next).outbox → After (held_of (acknowledged_of s.box a.life a.next).outbox)
@@ -303,15 +297,15 @@ module _ (cell : ℕ) (G : Gateway) (O : Orderly cell G) where
         inl (x.0, x.1, rw (at_one m f.0 (of_life l s.made) i a f.1) f.2)
 
     held_there : s.box.next - length (held_of s.box) ≤ i → i < s.box.next → s.box.life ≡ l → Fate s l i m
-    held_there low high e = go (counted_has held_entry s.box.cell s.box.life from (held_of s.box) (inv r).node.counts (i - from) (omega (arith, (inv r).node.reach)))
+    held_there low high e = go (counted_has itself s.box.cell s.box.life from (held_of s.box) (inv r).node.counts (i - from) (omega (arith, (inv r).node.reach)))
       where
         from : ℕ
         from = s.box.next - length (held_of s.box)
 
-        go : (p : Place) × Among p (held_of s.box) × (notice_of p.entry ≡ notice s.box.cell s.box.life (from + (i - from))) → Fate s l i m
+        go : (p : Entry) × Among p (held_of s.box) × (notice_of p ≡ notice s.box.cell s.box.life (from + (i - from))) → Fate s l i m
         go (p, k, n) =
             let c : from + (i - from) ≡ i = omega arith in
-            inr (inl (p, k, stands_for p.entry (ap (λ (x : Notice). x.life) n ∙ e) (ap (λ (x : Notice). x.count) n ∙ c) ((inv r).node.placed p k)))
+            inr (inl (p, k, stands_for p (ap (λ (x : Notice). x.life) n ∙ e) (ap (λ (x : Notice). x.count) n ∙ c) ((inv r).node.placed p k)))
 
     emptied_there : (i < length (of_life l s.accepted)) ⊎ Emptied s.emptied l i → Fate s l i m
     emptied_there (inl h) = accepted_there h
@@ -346,8 +340,8 @@ module _ (cell : ℕ) (G : Gateway) (O : Orderly cell G) where
       go (inr t) = (inv r).node.unused l t.1
 
   -- 4. the link never jams: the row expects the oldest entry, or its own life and next count, sent now, remove it
-  pub never_stuck : {s : Moment G} → Run cell G s → (p : Place) (ps : List Place) → held_of s.box ≡ p ∷ ps
-      → InOrder (G.life s.row) (G.next s.row) (notice_of p.entry) ⊎ Reaches s.box (G.life s.row) (G.next s.row)
+  pub never_stuck : {s : Moment G} → Run cell G s → (p : Entry) (ps : List Entry) → held_of s.box ≡ p ∷ ps
+      → InOrder (G.life s.row) (G.next s.row) (notice_of p) ⊎ Reaches s.box (G.life s.row) (G.next s.row)
   never_stuck {s} r p ps holds = go (ℕ_discrete rl s.box.life) (dec_le rl s.box.life)
     where
       v : Holding s
@@ -362,13 +356,13 @@ module _ (cell : ℕ) (G : Gateway) (O : Orderly cell G) where
       oldest : ℕ
       oldest = s.box.next - length (p ∷ ps)
 
-      own : notice_of p.entry ≡ notice s.box.cell s.box.life oldest
+      own : notice_of p ≡ notice s.box.cell s.box.life oldest
       own = (rw holds at v.node.counts).0
 
-      its_life : life_in p.entry ≡ s.box.life
+      its_life : life_in p ≡ s.box.life
       its_life = ap (λ (n : Notice). n.life) own
 
-      its_place : count_in p.entry ≡ oldest
+      its_place : count_in p ≡ oldest
       its_place = ap (λ (n : Notice). n.count) own
 
       -- of the outbox's life, all below the oldest were accepted, and none that was not made
@@ -381,12 +375,12 @@ module _ (cell : ℕ) (G : Gateway) (O : Orderly cell G) where
       whole : s.box.held ≡ length (p ∷ ps)
       whole = v.node.whole ∙ ap length holds
 
-      same_life : rl ≡ s.box.life → Dec (rn ≤ oldest) → InOrder rl rn (notice_of p.entry) ⊎ Reaches s.box rl rn
+      same_life : rl ≡ s.box.life → Dec (rn ≤ oldest) → InOrder rl rn (notice_of p) ⊎ Reaches s.box rl rn
       same_life e (yes k) = inl (inl (its_life ∙ sym e, its_place ∙ omega (arith, low, v.now.row.present, ap (λ (l : ℕ). length (of_life l s.accepted)) e)))
       same_life e (no k) =
           inr (e, omega (arith, whole), omega (arith, v.now.row.present, ap (λ (l : ℕ). length (of_life l s.accepted)) e, high s.box.life, v.node.made_so_far))
 
-      go : Dec (rl ≡ s.box.life) → Dec (rl ≤ s.box.life) → InOrder rl rn (notice_of p.entry) ⊎ Reaches s.box rl rn
+      go : Dec (rl ≡ s.box.life) → Dec (rl ≤ s.box.life) → InOrder rl rn (notice_of p) ⊎ Reaches s.box rl rn
       go (yes e) d = same_life e (dec_le rn oldest)
       go (no e) (yes d) = inl (inr (omega (arith, its_life), its_place ∙ omega (arith, low, ap length (v.now.row.later s.box.life (omega arith)))))
       go (no e) (no d) =

@@ -1,21 +1,16 @@
 -- What is known of what the gateway had accepted, and so of an acknowledgement. Assumes nothing.
-use mathlib.Core.Path.{◌≡◌, refl, sym, ap, subst, ◌∙◌}
-use mathlib.Core.List.{List, [], ◌++◌}
-use Prim.Native.Nat.{ℕ, ◌+◌, ◌-◌, ◌≤◌, ◌<◌}
-use native.Mathlib.Decide.{dec_le}
-use native.Mathlib.Omega.{arith}
-use lib.ListN.{length, take, drop, take-append-drop, length-take}
+use Rattle.std.proofs.Common.{◌≡◌, refl, sym, ap, subst, ◌∙◌, List, [], ◌++◌, ℕ, ◌+◌, ◌-◌, ◌≤◌, ◌<◌, arith, length, take, drop, take-append-drop, length-take}
+use Rattle.std.proofs.Math.Decide.{dec_le}
 use Rattle.cell.specs.declared.Entry.{Entry}
 use Rattle.cell.specs.declared.Notice.{Notice}
-use Rattle.outbox.specs.declared.Place.{Place}
 use Rattle.cell.specs.Ranges.{notice_of}
 use Rattle.outbox.specs.Outbox.{notice}
-use Rattle.outbox.specs.Counts.{Among, held_entry, counted_take, counted_drop, counted_in}
+use Rattle.outbox.specs.Counts.{itself, Among, counted_take, counted_drop, counted_in}
 use Rattle.link.specs.Lists.{life_in, count_in, At, of_life, FirstPart}
 use Rattle.link.specs.Run.{HeardAs, Told}
 use Rattle.link.proofs.Lists.{life_append, among_life, among_take, at_some, at_one, first_made, first_voids, first_length, first_at}
 use Rattle.link.proofs.Node.{InPlace, Node}
-use Rattle.link.proofs.Row.{Row, itself}
+use Rattle.link.proofs.Row.{Row}
 
 -- what the gateway had accepted when its row had this life and next count: in order, and of each life a first part of what was made in it
 pub record Heard (cell : ℕ) (made voids heard : List Entry) (life next : ℕ) : Type 0 where
@@ -31,7 +26,7 @@ module _ {cell : ℕ} {made voids heard : List Entry} {life next : ℕ} (h : Hea
   heard_voids zs = record { row = h.row; prefix = λ l. first_voids voids zs (of_life l heard) (of_life l made) (h.prefix l) }
 
 -- an acknowledgement with life l and next count n, against what the outbox holds
-module _ {mine : ℕ} {made voids : List Entry} {cell life next held : ℕ} {ps : List Place} (v : Node mine made voids cell life next held ps)
+module _ {mine : ℕ} {made voids : List Entry} {cell life next held : ℕ} {ps : List Entry} (v : Node mine made voids cell life next held ps)
     {heard : List Entry} {l n : ℕ} (h : Heard mine made voids heard l n) where
   -- what was heard of the outbox's life has counts below n, and l is that life
   below : (x : Entry) → Among x heard → life_in x ≡ life → (l ≡ life) × ((notice_of x).count < n)
@@ -80,16 +75,16 @@ module _ {mine : ℕ} {made voids : List Entry} {cell life next held : ℕ} {ps 
       starts_at : next - length ps + k ≡ n
       starts_at = omega (arith, v.whole, v.reach)
 
-      heard_of : (p : Place) → Among p (take k ps) → HeardAs made voids heard p.entry
+      heard_of : (p : Entry) → Among p (take k ps) → HeardAs made voids heard p
       heard_of p m =
-          let r = counted_in held_entry cell life (next - length ps) (take k ps) p (counted_take held_entry cell life (next - length ps) k ps v.counts) m in
+          let r = counted_in itself cell life (next - length ps) (take k ps) p (counted_take itself cell life (next - length ps) k ps v.counts) m in
           let i : next - length ps + r.0 < length (of_life l heard) = omega (arith, r.1, length-take k ps, starts_at, h.row.present) in
           let x = at_some (of_life l heard) (next - length ps + r.0) i in
-          heard_as p.entry (next - length ps + r.0) (ap (λ (q : Notice). q.life) r.2 ∙ sym el) (ap (λ (q : Notice). q.count) r.2) (v.placed p (among_take p k ps m)) x.0 x.1
+          heard_as p (next - length ps + r.0) (ap (λ (q : Notice). q.life) r.2 ∙ sym el) (ap (λ (q : Notice). q.count) r.2) (v.placed p (among_take p k ps m)) x.0 x.1
 
-      not_of : (p : Place) → Among p (drop k ps) → (x : Entry) → Among x heard → notice_of x ≡ notice_of p.entry → ⊥
+      not_of : (p : Entry) → Among p (drop k ps) → (x : Entry) → Among x heard → notice_of x ≡ notice_of p → ⊥
       not_of p m x w e =
-          let r = counted_in held_entry cell life (next - length ps + k) (drop k ps) p (counted_drop held_entry cell life (next - length ps) k ps v.counts) m in
+          let r = counted_in itself cell life (next - length ps + k) (drop k ps) p (counted_drop itself cell life (next - length ps) k ps v.counts) m in
           omega (arith, starts_at, ap (λ (q : Notice). q.count) (e ∙ r.2), below x w (ap (λ (q : Notice). q.life) (e ∙ r.2)))
 
   -- it reaches none: none of those held had been heard
@@ -97,9 +92,9 @@ module _ {mine : ℕ} {made voids : List Entry} {cell life next held : ℕ} {ps 
   told_none beyond =
       record { removed = []; split = refl; all_heard = λ p m. absurd m; none_left = not_of }
     where
-      not_of : (p : Place) → Among p ps → (x : Entry) → Among x heard → notice_of x ≡ notice_of p.entry → ⊥
+      not_of : (p : Entry) → Among p ps → (x : Entry) → Among x heard → notice_of x ≡ notice_of p → ⊥
       not_of p m x w e =
-          let r = counted_in held_entry cell life (next - length ps) ps p v.counts m in
+          let r = counted_in itself cell life (next - length ps) ps p v.counts m in
           let b = below x w (ap (λ (q : Notice). q.life) (e ∙ r.2)) in
           beyond (
             b.0,

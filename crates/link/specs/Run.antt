@@ -5,10 +5,9 @@ use Rattle.cell.specs.declared.Entry.{Entry}
 use Rattle.cell.proofs.CheckLaws.{InOrder}
 use Rattle.cell.specs.Ranges.{notice_of, cell_of}
 use Rattle.outbox.specs.declared.Outbox.{Outbox}
-use Rattle.outbox.specs.declared.Place.{Place}
 use Rattle.outbox.specs.Outbox.{full, void_of, held_of, fresh_of, offer_of, added_of, replaced_of, acknowledged_of, swapped_of}
 use Rattle.outbox.specs.Brought.{brought}
-use Rattle.outbox.specs.Counts.{Among, held_entry}
+use Rattle.outbox.specs.Counts.{Among}
 use Rattle.link.specs.Lists.{life_in, count_in, At, of_life, Holds}
 
 -- ---- the gateway, as far as one cell sees it: the entry that a call brings; what a call may give, whether it is accepted for this cell and the state after it;
@@ -53,7 +52,7 @@ when t e = cond t (e ∷ []) []
 
 -- the entries that an outbox holds
 abbrev pub entries_in : Outbox → List Entry
-entries_in b = map held_entry (held_of b)
+entries_in b = held_of b
 
 module _ (cell : ℕ) (G : Gateway) where
   -- a fresh outbox, and nothing sent
@@ -189,15 +188,15 @@ pub record HeardAs (made voids heard : List Entry) (e : Entry) : Type 0 where
   pub same_place : Holds voids was x
 
 -- what an acknowledgement did, sent when the gateway had accepted `heard`: each entry that it removed had been heard, and none of those left had
-pub record Told (made voids heard : List Entry) (before after : List Place) : Type 0 where
-  pub removed : List Place
+pub record Told (made voids heard : List Entry) (before after : List Entry) : Type 0 where
+  pub removed : List Entry
   pub split : before ≡ removed ++ after
-  pub all_heard : (p : Place) → Among p removed → HeardAs made voids heard p.entry
-  pub none_left : (p : Place) → Among p after → (x : Entry) → Among x heard → notice_of x ≡ notice_of p.entry → ⊥
+  pub all_heard : (p : Entry) → Among p removed → HeardAs made voids heard p
+  pub none_left : (p : Entry) → Among p after → (x : Entry) → Among x heard → notice_of x ≡ notice_of p → ⊥
 
 -- what became of the entry m that was made at place i of a life: it, or its void, was accepted there; or is still held; or a swap emptied it
 abbrev pub Fate : {G : Gateway} → Moment G → ℕ → ℕ → Entry → Type 0
 Fate s l i m =
     ((x : Entry) × At (of_life l s.accepted) i x × Holds s.voids m x)
-    ⊎ ((p : Place) × Among p (held_of s.box) × Holds s.voids m p.entry)
+    ⊎ ((p : Entry) × Among p (held_of s.box) × Holds s.voids m p)
     ⊎ ((x : Entry) × Among x s.emptied × Holds s.voids m x)

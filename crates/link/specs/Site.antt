@@ -1,7 +1,6 @@
 -- The gateway as built, seen from one plot: the site's row slice, and what `site::step` promises of a call. Definitions only.
-use Rattle.std.specs.Prelude.{◌≡◌, Bool, true, false, ◌&&◌, List, ℕ, eqb}
-use Rattle.cell.specs.declared.Answer.{Answer}
-use Rattle.cell.specs.declared.Answer.TheVariants.{Accepted, Refused}
+use Rattle.std.specs.Prelude.{◌≡◌, Bool, true, false, ◌&&◌, List, ℕ, eqb, Ok, Err}
+use Rattle.cell.specs.Answers.{Answer}
 use Rattle.cell.specs.declared.Card.{Card}
 use Rattle.cell.specs.Ranges.{life_of, next_of, cell_of}
 use Rattle.site.specs.Site.{SiteGives}
@@ -9,8 +8,8 @@ use Rattle.account.specs.Run.{Call, row_of}
 use Rattle.link.specs.Run.{Gateway}
 
 abbrev pub accepts : Answer → Bool
-accepts (Accepted a) = true
-accepts (Refused why) = false
+accepts (Ok a) = true
+accepts (Err why) = false
 
 -- any answer and rows that meet the contract; a call of another plot is not accepted for this one
 pub record Given (card : Card) (p : ℕ) (rows : List ℕ) (c : Call) (taken : Bool) (after : List ℕ) : Type 0 where

@@ -1,4 +1,3 @@
 -- What the proofs share, and that each contract settles its function.
 pub mod Turns
-pub mod Shaped
 pub mod Settled

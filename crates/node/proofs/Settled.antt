@@ -1,13 +1,13 @@
 -- Two results that meet a contract, as the check itself reads it, are equal, and so are two exits of each lent slice. Assumes nothing.
 -- a holds the arguments, and x, x' the parameters at exit, in the order of the signature.
-use mathlib.Core.Path.{◌≡◌, sym, ◌∙◌}
+use Rattle.std.proofs.Common.{◌≡◌, sym, ◌∙◌}
 use contract.Lifetimes.{Lfts}
 use denote.Triple.Clauses.{AtExit}
 use borrow.Fn.Kinds.{Dens, res_t, ended_of}
 use Rattle.node.proofs.outbox_fresh.Kinds as fresh
 use Rattle.node.proofs.outbox_fresh.Reads as fresh_reads
 use Rattle.node.proofs.outbox_offer.Kinds as offer
-use Rattle.node.proofs.outbox_offer.Reads as offer-reads
+use Rattle.node.proofs.outbox_offer.Reads as offer_reads
 use Rattle.node.proofs.outbox_add.Kinds as add
 use Rattle.node.proofs.outbox_add.Reads as add_reads
 use Rattle.node.proofs.outbox_replace.Kinds as replace
@@ -21,7 +21,7 @@ pub fresh_settled : (κs : Lfts 1) (a : Dens κs fresh.ps) (r r' : (res_t fresh.
     → (r ≡ r') × (x.1.0.now ≡ x'.1.0.now)
 fresh_settled κs a r r' x x' p p' = (p.number_is ∙ sym p'.number_is, p.box_is ∙ sym p'.box_is)
 
-pub offer_settled : (κs : Lfts 2) (a : Dens κs offer.ps) (r r' : (res_t offer.r κs).Denot) (x x' : AtExit (ended_of 2 offer.ps offer.r) κs) → offer-reads.Post κs a r x → offer-reads.Post κs a r' x'
+pub offer_settled : (κs : Lfts 2) (a : Dens κs offer.ps) (r r' : (res_t offer.r κs).Denot) (x x' : AtExit (ended_of 2 offer.ps offer.r) κs) → offer_reads.Post κs a r x → offer_reads.Post κs a r' x'
     → (r ≡ r') × (x.1.0.now ≡ x'.1.0.now)
 offer_settled κs a r r' x x' p p' = (p.number_is ∙ sym p'.number_is, p.entry_is ∙ sym p'.entry_is)
 

@@ -2,8 +2,7 @@
 use Rattle.std.specs.Prelude.{◌≡◌, refl, Bool, true, false, List, ℕ, eqb, length}
 use Rattle.std.proofs.Common.{◌∙◌, inl, inr, eqb-true}
 use Rattle.shapes.specs.Shapes.{wide}
-use Rattle.outbox.specs.declared.Given.{Given}
-use Rattle.outbox.specs.Outbox.{acknowledged_of}
+use Rattle.outbox.specs.Outbox.{Given, acknowledged_of}
 use Rattle.outbox.proofs.CallLaws.{Reaches, Removes, removes}
 use Rattle.node.specs.Numbers.{box_width, all_entries, box_from}
 use Rattle.node.specs.NumberLaws.{AllFit, box_there}

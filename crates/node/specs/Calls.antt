@@ -1,11 +1,7 @@
 -- [4] What each call of the node's library gives, for every input. A row that has not its count of numbers is refused with 255, and nothing is changed. Definitions only.
 use Rattle.std.specs.Prelude.{ℕ, ◌≡◌, Bool, cond, ◌&&◌, List, eqb, replicate}
 use Rattle.shapes.specs.Shapes.{ill_shaped, wide}
-use Rattle.outbox.specs.declared.Given.{Given}
-use Rattle.outbox.specs.declared.Offered.{Offered}
-use Rattle.outbox.specs.declared.Offered.TheVariants.{Oldest, Empty, BadForm}
-use Rattle.outbox.specs.declared.Replaced.{Replaced}
-use Rattle.outbox.specs.Outbox.{bad_form, given, fresh_of, offer_of, added_of, replaced_of, acknowledged_of, swapped_of}
+use Rattle.outbox.specs.Outbox.{Given, Offered, Oldest, Empty, BadForm, Replaced, bad_form, given, fresh_of, offer_of, added_of, replaced_of, acknowledged_of, swapped_of}
 use Rattle.node.specs.Numbers.{entry_width, is_entry, entry_from, entry_numbers, box_width, all_entries, box_from, box_numbers}
 
 -- the number of a call that finds an outbox empty

@@ -1,10 +1,8 @@
 -- What a call wrote, number 0, the next one reads: the outbox that the call gave. Assumes nothing.
 use Rattle.std.specs.Prelude.{◌≡◌, refl, Bool, true, false, cond, List, ℕ, zero, suc, length, drop}
 use Rattle.std.proofs.Common.{sym, ap, ◌∙◌, arith, eq-eqb, lit<}
-use Rattle.outbox.specs.declared.Given.{Given}
 use Rattle.outbox.specs.declared.Outbox.{Outbox}
-use Rattle.outbox.specs.declared.Place.{Place}
-use Rattle.outbox.specs.Outbox.{bad_form, spare, fresh_of, added_of, replaced_of, acknowledged_of, swapped_of}
+use Rattle.outbox.specs.Outbox.{Given, bad_form, spare, fresh_of, added_of, replaced_of, acknowledged_of, swapped_of}
 use Rattle.outbox.proofs.Back.{Plain}
 use Rattle.outbox.proofs.Each.{Sound, fresh_sound, add_sound, replace_sound, acknowledge_sound, swap_sound}
 use Rattle.shapes.specs.Shapes.{ill_shaped}
@@ -13,13 +11,10 @@ use Rattle.node.specs.NumberLaws.{AllFit, entry_plain, box_back, box_plain}
 use Rattle.node.specs.Calls.{of_box, GivesBox, Freshens, Adds, Replaces, Acknowledges, Swaps}
 
 -- a place whose head, if any, some 32 bits stand for, as in spare room; and an outbox of 30 such places
-abbrev plain : Place → Type 0
-plain p = Plain p.entry
-
 abbrev Whole : Outbox → Type 0
-Whole = Sound plain
+Whole = Sound Plain
 
-none : plain spare
+none : Plain spare
 none = (0, lit< tt, refl)
 
 places_count : (k : ℕ) (l : List ℕ) → length (places_from k l) ≡ k
@@ -54,17 +49,17 @@ module _ {box box' : List ℕ} where
           none_of_lem false z = omega arith
 
   pub fresh_reads : (cell : ℕ) → Freshens cell box 0 box' → box_from box' ≡ (fresh_of cell).outbox
-  fresh_reads cell = reads (fresh_sound plain none cell)
+  fresh_reads cell = reads (fresh_sound Plain none cell)
 
   module _ (fit : AllFit box) where
     pub add_reads : (entry : List ℕ) → AllFit entry → Adds box entry 0 box' → box_from box' ≡ (added_of (box_from box) (entry_from entry)).outbox
-    add_reads entry f = reads_of (added_of (box_from box) (entry_from entry)) (add_sound plain none (box_from box) (box_whole box fit) (entry_from entry) (entry_plain entry (f 10)))
+    add_reads entry f = reads_of (added_of (box_from box) (entry_from entry)) (add_sound Plain none (box_from box) (box_whole box fit) (entry_from entry) (entry_plain entry (f 10)))
 
     pub replace_reads : Replaces box 0 box' → box_from box' ≡ (replaced_of (box_from box)).outbox
-    replace_reads = reads_of _ (replace_sound plain none (box_from box) (box_whole box fit) (λ e. tt))
+    replace_reads = reads_of _ (replace_sound Plain none (box_from box) (box_whole box fit) (λ e. tt))
 
     pub acknowledge_reads : (life next : ℕ) → Acknowledges box life next 0 box' → box_from box' ≡ (acknowledged_of (box_from box) life next).outbox
-    acknowledge_reads life next = reads_of (acknowledged_of (box_from box) life next) (acknowledge_sound plain none (box_from box) (box_whole box fit) life next)
+    acknowledge_reads life next = reads_of (acknowledged_of (box_from box) life next) (acknowledge_sound Plain none (box_from box) (box_whole box fit) life next)
 
     pub swap_reads : (life : ℕ) → Swaps box life 0 box' → box_from box' ≡ (swapped_of (box_from box) life).outbox
-    swap_reads life = reads_of (swapped_of (box_from box) life) (swap_sound plain none (box_from box) (box_whole box fit) life)
+    swap_reads life = reads_of (swapped_of (box_from box) life) (swap_sound Plain none (box_from box) (box_whole box fit) life)

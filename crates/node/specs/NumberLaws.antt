@@ -10,7 +10,6 @@ use Rattle.cell.specs.declared.Reading.{Reading}
 use Rattle.shapes.specs.Shapes.{reading_from, reading_numbers, notice_from, notice_numbers}
 use Rattle.shapes.specs.ShapeLaws.{reading_wide, notice_wide, head_is, reading_back, reading_there, notice_back, notice_there, zeros_from}
 use Rattle.outbox.specs.declared.Outbox.{Outbox}
-use Rattle.outbox.specs.declared.Place.{Place}
 use Rattle.outbox.specs.Outbox.{spare}
 use Rattle.outbox.specs.Counts.{Among}
 use Rattle.outbox.proofs.Back.{Plain}
@@ -21,8 +20,8 @@ abbrev pub AllFit : List ℕ → Type 0
 AllFit l = (i : ℕ) → get_or l i 0 < 2 ^ 32
 
 -- each reading among these has a head that some 32 bits stand for
-abbrev pub AllPlain : List Place → Type 0
-AllPlain ps = (p : Place) → Among p ps → Plain p.entry
+abbrev pub AllPlain : List Entry → Type 0
+AllPlain ps = (p : Entry) → Among p ps → Plain p
 
 -- ---- an entry
 pub entry_wide : (e : Entry) → length (entry_numbers e) ≡ entry_width
@@ -91,34 +90,34 @@ entry_plain l h = go (eqb (get_or l 0 0) 0)
     go false = tt
 
 -- spare room is eleven zeros
-pub spare_is : entry_numbers spare.entry ≡ replicate entry_width 0
+pub spare_is : entry_numbers spare ≡ replicate entry_width 0
 unfolding entry_numbers
 spare_is = ap (λ (l : List ℕ). 0 ∷ l) (rw (← zeros_from) (reading_there (replicate 10 0) refl (lit< tt)))
 
 -- ---- the places
-pub places_wide : (ps : List Place) → length (place_numbers ps) ≡ 11 * length ps
+pub places_wide : (ps : List Entry) → length (place_numbers ps) ≡ 11 * length ps
 unfolding place_numbers
 places_wide [] = refl
-places_wide (p ∷ ps) = omega (arith, length-append (entry_numbers p.entry) (place_numbers ps), entry_wide p.entry, places_wide ps)
+places_wide (p ∷ ps) = omega (arith, length-append (entry_numbers p) (place_numbers ps), entry_wide p, places_wide ps)
 
 -- the first of them, and the rest
-first_is : (p : Place) (ps : List Place) → take entry_width (place_numbers (p ∷ ps)) ≡ entry_numbers p.entry
+first_is : (p : Entry) (ps : List Entry) → take entry_width (place_numbers (p ∷ ps)) ≡ entry_numbers p
 unfolding place_numbers
-first_is p ps = take_at (entry_numbers p.entry) (place_numbers ps) entry_width (entry_wide p.entry)
+first_is p ps = take_at (entry_numbers p) (place_numbers ps) entry_width (entry_wide p)
 
-rest_is : (p : Place) (ps : List Place) → drop entry_width (place_numbers (p ∷ ps)) ≡ place_numbers ps
+rest_is : (p : Entry) (ps : List Entry) → drop entry_width (place_numbers (p ∷ ps)) ≡ place_numbers ps
 unfolding place_numbers
-rest_is p ps = drop_at (entry_numbers p.entry) (place_numbers ps) entry_width (entry_wide p.entry)
+rest_is p ps = drop_at (entry_numbers p) (place_numbers ps) entry_width (entry_wide p)
 
-pub places_are : (ps : List Place) → are_entries (length ps) (place_numbers ps) ≡ true
+pub places_are : (ps : List Entry) → are_entries (length ps) (place_numbers ps) ≡ true
 unfolding are_entries
 places_are [] = refl
-places_are (p ∷ ps) = rw (first_is p ps, rest_is p ps, entry_is p.entry) (places_are ps)
+places_are (p ∷ ps) = rw (first_is p ps, rest_is p ps, entry_is p) (places_are ps)
 
-pub places_back : (ps : List Place) → AllPlain ps → places_from (length ps) (place_numbers ps) ≡ ps
+pub places_back : (ps : List Entry) → AllPlain ps → places_from (length ps) (place_numbers ps) ≡ ps
 unfolding places_from
 places_back [] h = refl
-places_back (p ∷ ps) h = rw (first_is p ps, rest_is p ps, entry_back p.entry (h p (inl refl)), places_back ps (λ q m. h q (inr m)))
+places_back (p ∷ ps) h = rw (first_is p ps, rest_is p ps, entry_back p (h p (inl refl)), places_back ps (λ q m. h q (inr m)))
 
 pub places_there : (k : ℕ) (l : List ℕ) → length l ≡ 11 * k → are_entries k l ≡ true → AllFit l → place_numbers (places_from k l) ≡ l
 unfolding places_from place_numbers are_entries

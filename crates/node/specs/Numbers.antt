@@ -3,8 +3,6 @@ use Rattle.std.specs.Prelude.{ℕ, zero, suc, Bool, true, cond, ◌&&◌, ◌||�
 use Rattle.cell.specs.declared.Entry.{Entry}
 use Rattle.shapes.specs.Shapes.{reading_from, reading_numbers, notice_width, notice_from, notice_numbers}
 use Rattle.outbox.specs.declared.Outbox.{Outbox}
-use Rattle.outbox.specs.declared.Place.{Place}
-use Rattle.outbox.specs.Outbox.{place}
 
 -- ---- an entry: 0 and the ten numbers of a reading; or 1, the three of a notice and seven zeros
 abbrev pub entry_width : ℕ
@@ -41,17 +39,17 @@ abbrev pub box_width : ℕ
 box_width = 334
 
 -- so many places, one after the other
-unfoldable pub places_from : ℕ → List ℕ → List Place
+unfoldable pub places_from : ℕ → List ℕ → List Entry
 places_from zero l = []
-places_from (suc k) l = place (entry_from (take entry_width l)) ∷ places_from k (drop entry_width l)
+places_from (suc k) l = entry_from (take entry_width l) ∷ places_from k (drop entry_width l)
 
 unfoldable pub are_entries : ℕ → List ℕ → Bool
 are_entries zero l = true
 are_entries (suc k) l = is_entry (take entry_width l) && are_entries k (drop entry_width l)
 
-unfoldable pub place_numbers : List Place → List ℕ
+unfoldable pub place_numbers : List Entry → List ℕ
 place_numbers [] = []
-place_numbers (p ∷ ps) = entry_numbers p.entry ++ place_numbers ps
+place_numbers (p ∷ ps) = entry_numbers p ++ place_numbers ps
 
 -- each place is an entry
 unfoldable pub all_entries : List ℕ → Bool

@@ -1,7 +1,7 @@
 // Fresh outboxes, and entries that are taken or not: 14 and 13.
 use crate::show;
 use cell::{Entry, Notice, Reading};
-use outbox::Outbox;
+use outbox::{NoSuchCell, Outbox};
 use std::io;
 
 // A reading of this cell, life and count.
@@ -26,62 +26,65 @@ pub fn void(cell: u32, life: u32, count: u32) -> Entry {
     Entry::Void(Notice { cell, life, count })
 }
 
+// An outbox of cell 7 that holds nothing, at this life and next count.
+pub fn at(life: u32, next: u32) -> Outbox {
+    let (Ok(b) | Err(NoSuchCell(b))) = Outbox::fresh(7);
+    Outbox { life, next, ..b }
+}
+
 // An outbox of cell 7 that was given so many readings, one after the other.
 pub fn holding(count: u32) -> Outbox {
-    let mut b = Outbox::fresh(7).outbox;
+    let mut b = at(0, 0);
     for i in 0..count {
-        b = b.add(reading(7, 0, i)).outbox;
+        let _ = b.add(reading(7, 0, i));
     }
     b
 }
 
-// An outbox of cell 7 that holds nothing, at this life and next count.
-pub fn at(life: u32, next: u32) -> Outbox {
-    let b = Outbox::fresh(7).outbox;
-    let places = b.places;
-    Outbox {
-        cell: 7,
-        life,
-        next,
-        held: 0,
-        places,
-    }
+// An outbox of cell 7 at this life, that was given one reading.
+pub fn one_in(life: u32) -> Outbox {
+    let mut b = at(life, 0);
+    let _ = b.add(reading(7, life, 0));
+    b
 }
 
 fn fresh(rt: &impl Print) -> io::Result<()> {
-    show::given(rt, "fresh cell 0", Outbox::fresh(0))?;
-    show::given(rt, "fresh cell 255", Outbox::fresh(255))?;
-    show::given(rt, "fresh cell 256", Outbox::fresh(256))?;
-    Ok(())
+    show::fresh(rt, "fresh cell 0", 0)?;
+    show::fresh(rt, "fresh cell 255", 255)?;
+    show::fresh(rt, "fresh cell 256", 256)
+}
+
+// A case in which an outbox is given an entry.
+fn given(rt: &impl Print, what: &str, b: Outbox, e: Entry) -> io::Result<Outbox> {
+    show::after(rt, what, b, |b| b.add(e))
 }
 
 // The next entry, and one that differs in its cell, its life or its count.
 fn next(rt: &impl Print) -> io::Result<()> {
     let b = holding(3);
-    show::given(rt, "three held, the next reading", b.add(reading(7, 0, 3)))?;
-    show::given(rt, "three held, the next void", b.add(void(7, 0, 3)))?;
-    show::given(rt, "another cell", b.add(reading(8, 0, 3)))?;
-    show::given(rt, "another life", b.add(reading(7, 1, 3)))?;
-    show::given(rt, "the last count again", b.add(reading(7, 0, 2)))?;
-    show::given(rt, "a count left out", b.add(void(7, 0, 4)))?;
+    given(rt, "three held, the next reading", b, reading(7, 0, 3))?;
+    given(rt, "three held, the next void", b, void(7, 0, 3))?;
+    given(rt, "another cell", b, reading(8, 0, 3))?;
+    given(rt, "another life", b, reading(7, 1, 3))?;
+    given(rt, "the last count again", b, reading(7, 0, 2))?;
+    given(rt, "a count left out", b, void(7, 0, 4))?;
     Ok(())
 }
 
 // The last count, and the one behind it.
 fn last(rt: &impl Print) -> io::Result<()> {
-    let b = at(0, 999999);
-    let c = show::given(rt, "count 999999", b.add(reading(7, 0, 999999)))?;
-    show::given(rt, "count 1000000", c.add(reading(7, 0, 1000000)))?;
+    let b = given(rt, "count 999999", at(0, 999999), reading(7, 0, 999999))?;
+    given(rt, "count 1000000", b, reading(7, 0, 1000000))?;
     Ok(())
 }
 
 // The thirtieth, the one after it, and what is not the next in a full outbox.
 fn full(rt: &impl Print) -> io::Result<()> {
-    let b = show::given(rt, "the thirtieth", holding(29).add(reading(7, 0, 29)))?;
-    show::given(rt, "one more", b.add(reading(7, 0, 30)))?;
-    show::given(rt, "one more, not the next", b.add(reading(7, 0, 31)))?;
-    let c = show::given(rt, "life 0, next 1", b.acknowledge(0, 1))?;
-    show::given(rt, "one more then", c.add(reading(7, 0, 30)))?;
+    let b = given(rt, "the thirtieth", holding(29), reading(7, 0, 29))?;
+    given(rt, "one more", b, reading(7, 0, 30))?;
+    given(rt, "one more, not the next", b, reading(7, 0, 31))?;
+    let b = show::after(rt, "life 0, next 1", b, |b| b.acknowledge(0, 1))?;
+    given(rt, "one more then", b, reading(7, 0, 30))?;
     Ok(())
 }
 

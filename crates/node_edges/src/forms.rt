@@ -1,52 +1,45 @@
 // Outboxes out of their form: 23, whatever is asked.
 use crate::{adds, show};
 use cell::{Entry, Reading};
-use outbox::{Outbox, Place};
+use outbox::Outbox;
 use std::io;
 
 // Each call of an outbox: its number.
 fn calls(rt: &impl Print, what: &str, b: Outbox) -> io::Result<()> {
     print!(rt; "{what}: offers")?;
-    show::offers(rt, b)?;
-    show::given(rt, ", adds", b.add(adds::reading(7, b.life, b.next)))?;
+    show::offers(rt, &b)?;
+    let (life, next) = (b.life, b.next);
+    show::after(rt, ", adds", b, |b| b.add(adds::reading(7, life, next)))?;
     show::replaced(rt, "  replaces", b)?;
-    show::given(rt, "  hears", b.acknowledge(b.life, b.next))?;
-    show::given(rt, "  swaps", b.swap(65535))?;
+    show::after(rt, "  hears", b, |b| b.acknowledge(life, next))?;
+    show::after(rt, "  swaps", b, |b| b.swap(65535))?;
     Ok(())
 }
 
 // Whether an outbox is in its form, by what it offers.
 fn look(rt: &impl Print, what: &str, b: Outbox) -> io::Result<()> {
     print!(rt; "{what}:")?;
-    show::outbox(rt, b)
+    show::outbox(rt, &b)
 }
 
 // Two held, with other numbers.
 fn numbers(cell: u32, life: u32, next: u32, held: u32) -> Outbox {
-    let places = adds::holding(2).places;
     Outbox {
         cell,
         life,
         next,
         held,
-        places,
+        ..adds::holding(2)
     }
 }
 
 // Two held, with another entry in this place.
 fn with(i: usize, e: Entry) -> Outbox {
-    let b = adds::holding(2);
-    let mut places = b.places;
-    if i < 30 {
-        places[i] = Place { entry: e };
+    let mut b = adds::holding(2);
+    if let Some(place) = b.places.get_mut(i) {
+        *place = e;
     }
-    Outbox {
-        cell: 7,
-        life: 0,
-        next: 2,
-        held: 2,
-        places,
-    }
+    b
 }
 
 // A reading of zeros but for its rain and its head.

@@ -10,7 +10,6 @@ use Rattle.cell.specs.declared.Entry.{Entry}
 use Rattle.cell.specs.declared.Reading.{Reading}
 use Rattle.cell.specs.Conj.{told}
 use Rattle.outbox.specs.declared.Outbox.{Outbox}
-use Rattle.outbox.specs.declared.Place.{Place}
 use Rattle.outbox.specs.Outbox.{zeros, spare, is_zero, is_spare, padded, held_of, box_of, all_spare}
 use Rattle.outbox.specs.Counts.{Among}
 use Rattle.outbox.proofs.Kept.{InForm}
@@ -47,23 +46,20 @@ zero_is r e (bits, small, same) =
     same_fields (eqb-true _ _ (a 0)) (eqb-true _ _ (a 1)) (eqb-true _ _ (a 2)) (eqb-true _ _ (b 0)) (eqb-true _ _ (b 1)) (eqb-true _ _ (b 2)) (eqb-true _ _ (c 0)) (eqb-true _ _ (c 1)) (eqb-true _ _ (c 2))
     (same ∙ ap carried_of z)
 
-spare_is : (p : Place) → is_spare p.entry ≡ true → Plain p.entry → p ≡ spare
-spare_is p e h = go p.entry refl e h
-  where
-    go : (x : Entry) → p.entry ≡ x → is_spare x ≡ true → Plain x → p ≡ spare
-    go (Entry.Reading r) q s k = ap (λ (y : Entry). record { entry = y }) (q ∙ ap Entry.Reading (zero_is r s k))
-    go (Entry.Void n) q s k = let z : ◌≡◌ {A = ℕ} 0 1 = cc in absurd (omega arith)
+spare_is : (p : Entry) → is_spare p ≡ true → Plain p → p ≡ spare
+spare_is (Entry.Reading r) e h = ap Entry.Reading (zero_is r e h)
+spare_is (Entry.Void n) e h = cc
 
-rest_is : (ps : List Place) → all_spare ps ≡ true → ((p : Place) → Among p ps → Plain p.entry) → ps ≡ replicate (length ps) spare
+rest_is : (ps : List Entry) → all_spare ps ≡ true → ((p : Entry) → Among p ps → Plain p) → ps ≡ replicate (length ps) spare
 unfolding all_spare
 rest_is [] e h = refl
 rest_is (p ∷ ps) e h =
-    let t = (and-eq-true_iff (is_spare p.entry) (all_spare ps)).0 e in
+    let t = (and-eq-true_iff (is_spare p) (all_spare ps)).0 e in
     let a : p ≡ spare = spare_is p t.0 (h p (inl refl)) in
     let b : ps ≡ replicate (length ps) spare = rest_is ps t.1 (λ q m. h q (inr m)) in
     cc
 
-pub box_is : (b : Outbox) → InForm b → ((p : Place) → Among p (drop b.held b.places) → Plain p.entry) → box_of b.cell b.life b.next (held_of b) ≡ b
+pub box_is : (b : Outbox) → InForm b → ((p : Entry) → Among p (drop b.held b.places) → Plain p) → box_of b.cell b.life b.next (held_of b) ≡ b
 unfolding box_of held_of padded
 box_is b v h =
     let f = form_in b v.form in

@@ -1,31 +1,27 @@
 -- What each call does to the outbox, as lists: what the crates above cite. Assumes nothing.
 use Rattle.std.proofs.Math.Path.{◌≡◌, refl}
-use Rattle.std.proofs.Common.{sym, subst}
-use Rattle.std.specs.Prelude.{Bool, ◌⊎◌, ℕ, ◌+◌, ◌-◌, ◌≤◌, ◌<◌, leb, length, drop}
+use Rattle.std.proofs.Common.{sym, subst, arith, ltb-true, leb-true, eq-eqb, lt-ltb, le-leb}
+use Rattle.std.specs.Prelude.{Bool, ◌⊎◌, List, [], ◌∷◌, ◌++◌, ℕ, ◌+◌, ◌-◌, ◌≤◌, ◌<◌, leb, length, drop}
 use Rattle.std.proofs.Math.Bool.{true, false, cond, and-eq-true_iff}
 use Rattle.std.proofs.Math.Logic.{inl, inr}
-use mathlib.Core.List.{List, [], ◌∷◌, ◌++◌}
-use native.Mathlib.Omega.{arith}
-use borrow.Author.Tests.{ltb-true, leb-true, eq-eqb, lt-ltb, le-leb}
 use Rattle.std.proofs.Math.Dec.{ltb}
 use Rattle.cell.specs.declared.Entry.{Entry}
 use Rattle.cell.specs.Ranges.{notice_of}
-use Rattle.outbox.specs.declared.Place.{Place}
 use Rattle.outbox.specs.declared.Outbox.{Outbox}
-use Rattle.outbox.specs.declared.Given.{Given}
-use Rattle.outbox.specs.declared.Offered.TheVariants.{Oldest}
-use Rattle.outbox.specs.Outbox.{bad_form, not_next, full, notice, void_of, same, place, held_of, box_of, oldest_of, form_ok, given, unless, fresh_of, oldest, offer_of, is_next, with_entry, added_of, replacing, replaced_of, is_heard, without, acknowledged_of, is_higher, swapped_of}
+use Rattle.outbox.specs.Outbox.{Given}
+use Rattle.outbox.specs.Outbox.{Oldest}
+use Rattle.outbox.specs.Outbox.{bad_form, not_next, full, notice, void_of, same, held_of, box_of, oldest_of, form_ok, given, unless, fresh_of, oldest, offer_of, is_next, with_entry, added_of, replacing, replaced_of, is_heard, without, acknowledged_of, is_higher, swapped_of}
 use Rattle.outbox.specs.Brought.{brought}
 use Rattle.outbox.specs.Laws.{same_is, held_is, heard_in}
 
 -- something of an outbox's cell, life, next count, number held, and what it holds
-abbrev pub Has : (ℕ → ℕ → ℕ → ℕ → List Place → Type 0) → Outbox → Type 0
+abbrev pub Has : (ℕ → ℕ → ℕ → ℕ → List Entry → Type 0) → Outbox → Type 0
 Has P b = P b.cell b.life b.next b.held (held_of b)
 
 -- what holds of the parts holds of the outbox made of them
-pub box_has : (P : ℕ → ℕ → ℕ → ℕ → List Place → Type 0) (cell life next : ℕ) (ps : List Place) → P cell life next (length ps) ps → Has P (box_of cell life next ps)
+pub box_has : (P : ℕ → ℕ → ℕ → ℕ → List Entry → Type 0) (cell life next : ℕ) (ps : List Entry) → P cell life next (length ps) ps → Has P (box_of cell life next ps)
 unfolding box_of
-box_has P cell life next ps h = subst (λ (qs : List Place). P cell life next (length ps) qs) (sym (held_is cell life next ps)) h
+box_has P cell life next ps h = subst (λ (qs : List Entry). P cell life next (length ps) qs) (sym (held_is cell life next ps)) h
 
 pub fresh_is : (cell : ℕ) → (fresh_of cell).outbox ≡ box_of cell 0 0 []
 unfolding fresh_of
@@ -50,7 +46,7 @@ module _ (b : Outbox) where
   -- ---- a new entry: at its end, or refused
   abbrev pub Adds : Entry → Given → Type 0
   Adds e g =
-      ((g.number ≡ 0) × (notice_of e ≡ notice b.cell b.life b.next) × (g.outbox ≡ box_of b.cell b.life (b.next + 1) (held_of b ++ (place e ∷ []))) × (b.next < 1000000) × (b.held < 30))
+      ((g.number ≡ 0) × (notice_of e ≡ notice b.cell b.life b.next) × (g.outbox ≡ box_of b.cell b.life (b.next + 1) (held_of b ++ (e ∷ []))) × (b.next < 1000000) × (b.held < 30))
       ⊎ ((g.number ≡ 0 → ⊥) × (g.outbox ≡ b))
 
   pub adds : (e : Entry) → Adds e (added_of b e)
@@ -64,21 +60,21 @@ module _ (b : Outbox) where
       go true true true q h = inl (refl, (is_next_lem b e q).0, refl, (is_next_lem b e q).1, ltb-true b.held 30 h)
 
   -- ---- the oldest: offered, and replaced by its void; or there is none
-  pub record Offers (p : Place) (ps : List Place) : Type 0 where
+  pub record Offers (p : Entry) (ps : List Entry) : Type 0 where
     pub holds : held_of b ≡ p ∷ ps
-    pub offers : brought (offer_of b) ≡ p.entry ∷ []
-    pub replaces : (replaced_of b).outbox ≡ box_of b.cell b.life b.next (place (void_of p.entry) ∷ ps)
+    pub offers : brought (offer_of b) ≡ p ∷ []
+    pub replaces : (replaced_of b).outbox ≡ box_of b.cell b.life b.next (void_of p ∷ ps)
 
-  pub offers : ((p : Place) × (ps : List Place) × Offers p ps) ⊎ ((brought (offer_of b) ≡ []) × ((replaced_of b).outbox ≡ b))
+  pub offers : ((p : Entry) × (ps : List Entry) × Offers p ps) ⊎ ((brought (offer_of b) ≡ []) × ((replaced_of b).outbox ≡ b))
   unfolding offer_of oldest replaced_of replacing
   offers = go (form_ok b) (held_of b) refl refl
     where
-      go : (f : Bool) (hs : List Place) → form_ok b ≡ f → held_of b ≡ hs → ((p : Place) × (ps : List Place) × Offers p ps) ⊎ ((brought (offer_of b) ≡ []) × ((replaced_of b).outbox ≡ b))
+      go : (f : Bool) (hs : List Entry) → form_ok b ≡ f → held_of b ≡ hs → ((p : Entry) × (ps : List Entry) × Offers p ps) ⊎ ((brought (offer_of b) ≡ []) × ((replaced_of b).outbox ≡ b))
       go false hs ef eh = inr (rw ef, rw ef)
       go true [] ef eh = inr (rw (ef, eh), rw (ef, eh))
       go true (p ∷ ps) ef eh = inl (p, ps, record { holds = eh; offers = rw (ef, eh); replaces = rw (ef, eh) })
 
-  pub offer_is : form_ok b ≡ true → (p : Place) (ps : List Place) → held_of b ≡ p ∷ ps → offer_of b ≡ Oldest p.entry
+  pub offer_is : form_ok b ≡ true → (p : Entry) (ps : List Entry) → held_of b ≡ p ∷ ps → offer_of b ≡ Oldest p
   unfolding offer_of oldest
   offer_is f p ps h = rw (f, h)
 

@@ -1,5 +1,5 @@
 -- What several proofs share, and that each contract settles its function.
-pub mod Room
+pub mod Alike
 pub mod Settled
 pub mod Changed
 -- laws of the calls, for the crates above

@@ -1,8 +1,7 @@
 -- What an offer brings, as a list. Definitions only.
 use Rattle.std.specs.Prelude.{List, [], ◌∷◌}
 use Rattle.cell.specs.declared.Entry.{Entry}
-use Rattle.outbox.specs.declared.Offered.{Offered}
-use Rattle.outbox.specs.declared.Offered.TheVariants.{Oldest, Empty, BadForm}
+use Rattle.outbox.specs.Outbox.{Offered, Oldest, Empty, BadForm}
 
 -- what an offer brings: one entry or none
 abbrev pub brought : Offered → List Entry

@@ -1,22 +1,20 @@
 -- Laws of the outbox: of its form, and of the 30 places seen as the list of those held. Assumes nothing.
-use Rattle.std.specs.Prelude.{◌≡◌, refl, Bool, true, false, not, ◌&&◌, leb, ltb, eqb, drop, replicate}
+use Rattle.std.specs.Prelude.{◌≡◌, refl, Bool, true, false, not, ◌&&◌, leb, ltb, eqb, List, [], ◌∷◌, ◌++◌, ℕ, zero, suc, ◌+◌, ◌-◌, ◌≤◌, ◌<◌, drop, replicate}
+use Rattle.std.specs.List.{list_all}
 use Rattle.std.proofs.Math.Path.{sym, ap}
-use Rattle.std.proofs.Common.{◌∙◌, add-one, arith, leb-true, ltb-true, eqb-true, eq-eqb, drop_of_length-le, get_or-take, take_at, take-suc, drop-cons}
-use mathlib.Core.List.{List, [], ◌∷◌, ◌++◌, append_assoc}
-use Prim.Native.Nat.{ℕ, zero, suc, ◌+◌, ◌-◌, ◌≤◌, ◌<◌}
+use Rattle.std.proofs.Common.{◌∙◌, add-one, append_assoc, arith, leb-true, ltb-true, eqb-true, eq-eqb, drop_of_length-le, get_or-take, take_at, take-suc, drop-cons}
 use Rattle.std.proofs.Math.Nat.{sub-zero}
-use Rattle.std.proofs.lemmas.Bool.{not-true, not-false}
 use Rattle.std.proofs.Math.ListN.{length, get_or, take, set, length-append}
 use Rattle.std.proofs.Math.Seq.{length-take-le}
+use Rattle.std.proofs.lemmas.Bool.{not-true, not-false}
 use Rattle.std.proofs.lemmas.List.{set_at}
 use Rattle.cell.specs.declared.Entry.{Entry}
 use Rattle.cell.specs.declared.Notice.{Notice}
 use Rattle.cell.specs.Conj.{told}
 use Rattle.cell.specs.Ranges.{notice_of}
-use Rattle.outbox.specs.declared.Offered.TheVariants.{Oldest}
+use Rattle.outbox.specs.Outbox.{Oldest}
 use Rattle.outbox.specs.declared.Outbox.{Outbox}
-use Rattle.outbox.specs.declared.Place.{Place}
-use Rattle.outbox.specs.Outbox.{bad_form, notice, same, place, spare, is_spare, padded, held_of, box_of, oldest_of, numbers_ok, in_turn, all_spare, form_ok, given, unless, oldest, with_entry, is_heard, without, acknowledged_of}
+use Rattle.outbox.specs.Outbox.{bad_form, notice, same, spare, is_spare, padded, held_of, box_of, oldest_of, numbers_ok, in_turn, all_spare, form_ok, given, unless, oldest, with_entry, is_heard, without, acknowledged_of}
 
 -- ---- notices
 pub notice_is : (n : Notice) {cell life count : ℕ} → n.cell ≡ cell → n.life ≡ life → n.count ≡ count → n ≡ notice cell life count
@@ -33,9 +31,26 @@ pub same_self : (n : Notice) → same n n ≡ true
 unfolding same
 same_self n = rw (eq-eqb n.cell n.cell refl, eq-eqb n.life n.life refl, eq-eqb n.count n.count refl)
 
--- ---- one turn of a reader that goes over places, and its end
-pub turn_on : (cell life count i h : ℕ) (ps : List Place) (d : Place) (n : Notice) (ok here : Bool) → i < h → h ≤ length ps
-    → here ≡ same n (notice cell life count) → n ≡ notice_of (get_or ps i d).entry
+-- ---- a reader that goes over places: where it stops, a turn, and its end
+module _ (due : Notice) (i : ℕ) (ps : List Entry) where
+  turn_at : (d : Entry) → i < length ps → in_turn due.cell due.life due.count (drop i ps) ≡ (same (notice_of (get_or ps i d)) due && in_turn due.cell due.life (due.count + 1) (drop (i + 1) ps))
+  unfolding in_turn
+  turn_at d h = rw (add-one i, drop-cons ps i d h)
+
+  pub turn_stops : {n : Notice} (d : Entry) → i < length ps → n ≡ notice_of (get_or ps i d) → same n due ≡ false → false ≡ in_turn due.cell due.life due.count (drop i ps)
+  turn_stops d h e f = sym (turn_at d h ∙ rw (← e, f))
+
+  pub turn_goes : {n : Notice} (d : Entry) → i < length ps → n ≡ notice_of (get_or ps i d) → same n due ≡ true
+      → in_turn due.cell due.life (due.count + 1) (drop (i + 1) ps) ≡ in_turn due.cell due.life due.count (drop i ps)
+  turn_goes d h e t = sym (turn_at d h ∙ rw (← e, t))
+
+  pub turn_end : length ps ≤ i → in_turn due.cell due.life due.count (drop i ps) ≡ true
+  unfolding in_turn
+  turn_end h = rw (drop_of_length-le ps h)
+
+-- the same of a reader that counts its places and keeps whether all so far were right
+pub turn_on : (cell life count i h : ℕ) (ps : List Entry) (d : Entry) (n : Notice) (ok here : Bool) → i < h → h ≤ length ps
+    → here ≡ same n (notice cell life count) → n ≡ notice_of (get_or ps i d)
     → (ok && here && in_turn cell life (count + 1) (drop (i + 1) (take h ps))) ≡ (ok && in_turn cell life count (drop i (take h ps)))
 unfolding in_turn
 turn_on cell life count i h ps d n true here k l e f =
@@ -43,19 +58,20 @@ turn_on cell life count i h ps d n true here k l e f =
     rw (add-one i, drop-cons (take h ps) i d (omega arith), get_or-take h ps i d k, e, f)
 turn_on cell life count i h ps d n false here k l e f = refl
 
-pub turn_end : (cell life count i : ℕ) (ps : List Place) → length ps ≤ i → in_turn cell life count (drop i ps) ≡ true
-unfolding in_turn
-turn_end cell life count i ps h = rw (drop_of_length-le ps h)
-
-pub spare_on : (i : ℕ) (ps : List Place) (d : Place) (ok here : Bool) → i < length ps → here ≡ is_spare (get_or ps i d).entry
+pub spare_on : (i : ℕ) (ps : List Entry) (d : Entry) (ok here : Bool) → i < length ps → here ≡ is_spare (get_or ps i d)
     → (ok && here && all_spare (drop (i + 1) ps)) ≡ (ok && all_spare (drop i ps))
 unfolding all_spare
 spare_on i ps d true here h e = rw (add-one i, drop-cons ps i d h, e)
 spare_on i ps d false here h e = refl
 
-pub spare_end : (i : ℕ) (ps : List Place) → length ps ≤ i → all_spare (drop i ps) ≡ true
+pub spare_end : (i : ℕ) (ps : List Entry) → length ps ≤ i → all_spare (drop i ps) ≡ true
 unfolding all_spare
 spare_end i ps h = rw (drop_of_length-le ps h)
+
+pub spares_all : (ps : List Entry) → list_all is_spare ps ≡ all_spare ps
+unfolding all_spare
+spares_all [] = refl
+spares_all (p ∷ ps) = ap (λ (r : Bool). is_spare p && r) (spares_all ps)
 
 -- ---- what the form says
 pub record NumbersIn (b : Outbox) : Type 0 where
@@ -98,27 +114,27 @@ passed {answer} e t = sym e ∙ not-false answer t
 pub failed : {answer check : Bool} → answer ≡ check → not answer ≡ true → check ≡ false
 failed {answer} e t = sym e ∙ not-true answer t
 
--- ---- the places as lists
 -- one turn of a writer that moves the places of a list into spare ones
-pub move_turn : (n i : ℕ) (from : List Place) (d : Place) → i < length from → i < n → set (take i from ++ replicate (n - i) spare) i (get_or from i d) ≡ take (i + 1) from ++ replicate (n - (i + 1)) spare
+pub move_turn : (n i : ℕ) (from : List Entry) (d : Entry) → i < length from → i < n → set (take i from ++ replicate (n - i) spare) i (get_or from i d) ≡ take (i + 1) from ++ replicate (n - (i + 1)) spare
 move_turn n i from d h k =
     let e : n - i ≡ suc (n - (i + 1)) = omega arith in
     let l : length (take i from) ≡ i = length-take-le i from (omega arith) in
     rw (e, add-one i, take-suc from i d h, append_assoc) (set_at (take i from) spare (replicate (n - suc i) spare) (get_or from i d) i l)
 
+-- ---- the places as lists
 -- dropping of a first part
-pub drop_take : (k h : ℕ) (ps : List Place) → drop k (take h ps) ≡ take (h - k) (drop k ps)
+pub drop_take : (k h : ℕ) (ps : List Entry) → drop k (take h ps) ≡ take (h - k) (drop k ps)
 drop_take zero h ps = rw (sub-zero h)
 drop_take (suc k) zero ps = let z : 0 - suc k ≡ 0 = omega arith in rw z
 drop_take (suc k) (suc h) [] = none (suc h - suc k)
   where
-    none : (n : ℕ) → [] ≡ take {A = Place} n []
+    none : (n : ℕ) → [] ≡ take {A = Entry} n []
     none zero = refl
     none (suc n) = refl
 drop_take (suc k) (suc h) (p ∷ ps) = let z : suc h - suc k ≡ h - k = omega arith in rw z (drop_take k h ps)
 
 -- one more behind those held
-pub padded_more : (ps : List Place) (p : Place) → length ps < 30 → set (padded ps) (length ps) p ≡ padded (ps ++ (p ∷ []))
+pub padded_more : (ps : List Entry) (p : Entry) → length ps < 30 → set (padded ps) (length ps) p ≡ padded (ps ++ (p ∷ []))
 unfolding padded
 padded_more ps p h =
     let l : length (ps ++ (p ∷ [])) ≡ length ps + 1 = length-append ps (p ∷ []) in
@@ -126,16 +142,16 @@ padded_more ps p h =
     rw (l, n, append_assoc) (set_at ps spare (replicate (30 - (length ps + 1)) spare) p (length ps) refl)
 
 -- another in place of the first
-pub padded_first : (p q : Place) (ps : List Place) → set (padded (p ∷ ps)) 0 q ≡ padded (q ∷ ps)
+pub padded_first : (p q : Entry) (ps : List Entry) → set (padded (p ∷ ps)) 0 q ≡ padded (q ∷ ps)
 unfolding padded
 padded_first p q ps = refl
 
-pub first_of : (p : Place) (ps : List Place) (d : Place) → get_or (padded (p ∷ ps)) 0 d ≡ p
+pub first_of : (p : Entry) (ps : List Entry) (d : Entry) → get_or (padded (p ∷ ps)) 0 d ≡ p
 unfolding padded
 first_of p ps d = refl
 
 -- what an outbox made of a list holds
-pub held_is : (cell life next : ℕ) (ps : List Place) → held_of (box_of cell life next ps) ≡ ps
+pub held_is : (cell life next : ℕ) (ps : List Entry) → held_of (box_of cell life next ps) ≡ ps
 unfolding box_of held_of padded
 held_is cell life next ps = take_at ps (replicate (30 - length ps) spare) (length ps) refl
 
@@ -144,17 +160,17 @@ unfolding held_of
 holds_none b e = rw e
 
 -- ---- what the code makes of an outbox
-first_held : (h : ℕ) (ps : List Place) (d : Place) → (h ≡ 0 → ⊥) → 0 < length ps → take h ps ≡ get_or ps 0 d ∷ take (h - 1) (drop 1 ps)
+first_held : (h : ℕ) (ps : List Entry) (d : Entry) → (h ≡ 0 → ⊥) → 0 < length ps → take h ps ≡ get_or ps 0 d ∷ take (h - 1) (drop 1 ps)
 first_held zero ps d n k = absurd (n refl)
 first_held (suc h) [] d n k = absurd (omega arith)
 first_held (suc h) (p ∷ ps) d n k = let e : suc h - 1 ≡ h = omega arith in rw e
 
 module _ (b : Outbox) (len : length b.places ≡ 30) where
-  pub first_is : (d : Place) → (b.held ≡ 0 → ⊥) → held_of b ≡ get_or b.places 0 d ∷ take (b.held - 1) (drop 1 b.places)
+  pub first_is : (d : Entry) → (b.held ≡ 0 → ⊥) → held_of b ≡ get_or b.places 0 d ∷ take (b.held - 1) (drop 1 b.places)
   unfolding held_of
   first_is d n = first_held b.held b.places d n (omega arith)
 
-  pub oldest_is : (d : Place) → (b.held ≡ 0 → ⊥) → Oldest (get_or b.places 0 d).entry ≡ oldest (held_of b)
+  pub oldest_is : (d : Entry) → (b.held ≡ 0 → ⊥) → Oldest (get_or b.places 0 d) ≡ oldest (held_of b)
   unfolding oldest
   oldest_is d n = rw (first_is d n)
 
@@ -163,14 +179,14 @@ module _ (b : Outbox) (len : length b.places ≡ 30) where
   held_length h = length-take-le b.held b.places (omega arith)
 
   -- the outbox with one entry more
-  pub with_is : (e : Entry) (ps : List Place) → b.held < 30 → ps ≡ padded (drop 0 (take b.held b.places))
-      → record { cell = b.cell; life = b.life; next = b.next + 1; held = b.held + 1; places = set ps b.held (place e) } ≡ with_entry b e
+  pub with_is : (e : Entry) (ps : List Entry) → b.held < 30 → ps ≡ padded (drop 0 (take b.held b.places))
+      → record { cell = b.cell; life = b.life; next = b.next + 1; held = b.held + 1; places = set ps b.held e } ≡ with_entry b e
   unfolding with_entry box_of held_of
   with_is e ps h k =
       let l : length (take b.held b.places) ≡ b.held = held_length (omega arith) in
-      let m : length (take b.held b.places ++ (place e ∷ [])) ≡ b.held + 1 = omega (arith, length-append (take b.held b.places) (place e ∷ [])) in
-      let s : set ps b.held (place e) ≡ padded (take b.held b.places ++ (place e ∷ [])) =
-      rw k (rw l at (padded_more (take b.held b.places) (place e) (omega arith))) in
+      let m : length (take b.held b.places ++ (e ∷ [])) ≡ b.held + 1 = omega (arith, length-append (take b.held b.places) (e ∷ [])) in
+      let s : set ps b.held e ≡ padded (take b.held b.places ++ (e ∷ [])) =
+      rw k (rw l at (padded_more (take b.held b.places) e (omega arith))) in
       rw (m, s)
 
 -- ---- an acknowledgement by its tests
@@ -180,6 +196,10 @@ heard_in b life n e =
     let t = told (eqb life b.life) (ltb (oldest_of b) n ∷ leb n b.next ∷ []) e in
     (eqb-true _ _ (t 0), ltb-true _ _ (t 1), leb-true _ _ (t 2))
 
+pub heard_is : (b : Outbox) (life n : ℕ) (after : Outbox) → form_ok b ≡ true → is_heard b life n ≡ true → after ≡ without b n → given after 0 ≡ acknowledged_of b life n
+unfolding acknowledged_of unless
+heard_is b life n after f h e = rw (f, h, e)
+
 pub bad_heard : (b : Outbox) (life n : ℕ) → form_ok b ≡ false → given b bad_form ≡ acknowledged_of b life n
 unfolding acknowledged_of unless
 bad_heard b life n f = rw f
@@ -187,7 +207,3 @@ bad_heard b life n f = rw f
 pub not_heard : (b : Outbox) (life n : ℕ) → form_ok b ≡ true → is_heard b life n ≡ false → given b 0 ≡ acknowledged_of b life n
 unfolding acknowledged_of unless
 not_heard b life n f h = rw (f, h)
-
-pub heard_is : (b : Outbox) (life n : ℕ) (after : Outbox) → form_ok b ≡ true → is_heard b life n ≡ true → after ≡ without b n → given after 0 ≡ acknowledged_of b life n
-unfolding acknowledged_of unless
-heard_is b life n after f h e = rw (f, h, e)

@@ -1,16 +1,13 @@
 -- [4] One cell's outbox: what it holds as a list, oldest first; its form; and what each call gives. Definitions only.
-use Rattle.std.specs.Prelude.{ℕ, ◌+◌, ◌-◌, Bool, true, false, cond, ◌&&◌, List, [], ◌∷◌, ◌++◌, leb, ltb, eqb, length, take, drop, replicate}
+use Rattle.std.specs.Prelude.{ℕ, ◌+◌, ◌-◌, Bool, true, false, cond, not, ◌&&◌, Option, Some, None, Result, Ok, Err, List, [], ◌∷◌, ◌++◌, leb, ltb, eqb, length, take, drop, replicate}
 use Rattle.head.specs.Pattern.{pattern_of, carried_of}
 use Rattle.cell.specs.declared.Entry.{Entry}
 use Rattle.cell.specs.declared.Notice.{Notice}
 use Rattle.cell.specs.declared.Reading.{Reading}
 use Rattle.cell.specs.Ranges.{notice_of}
-use Rattle.outbox.specs.declared.Given.{Given}
-use Rattle.outbox.specs.declared.Offered.{Offered}
-use Rattle.outbox.specs.declared.Offered.TheVariants.{Oldest, Empty, BadForm}
+use Rattle.outbox.specs.declared.NoSuchCell.{NoSuchCell}
 use Rattle.outbox.specs.declared.Outbox.{Outbox}
-use Rattle.outbox.specs.declared.Place.{Place}
-use Rattle.outbox.specs.declared.Replaced.{Replaced}
+use Rattle.outbox.specs.declared.Refusal.{Refusal}
 
 -- ---- the refusal numbers, in the order of the checks: 23 outbox out of its form; 14 not the outbox's next entry, or no higher life; 13 outbox holds 30
 abbrev pub bad_form : ℕ
@@ -34,15 +31,12 @@ abbrev pub void_of : Entry → Entry
 void_of e = Entry.Void (notice_of e)
 
 -- ---- places
-abbrev pub place : Entry → Place
-place e = record { entry = e }
-
 -- spare room is zero: a reading of zeros, head bits 00000000
 abbrev pub zeros : Reading
 zeros = record { cell = 0; life = 0; count = 0; rain = 0; irrig = 0; septic = 0; etmin = 0; pet = 0; amc = 0; head = (carried_of 0).value; nan = (carried_of 0).nan }
 
-abbrev pub spare : Place
-spare = place (Entry.Reading zeros)
+abbrev pub spare : Entry
+spare = Entry.Reading zeros
 
 unfoldable pub is_zero : Reading → Bool
 is_zero r =
@@ -57,14 +51,14 @@ is_spare (Entry.Void n) = false
 
 -- ---- the list of those held, oldest first, and the 30 places
 -- the 30 places that have these at their start, the rest spare
-unfoldable pub padded : List Place → List Place
+unfoldable pub padded : List Entry → List Entry
 padded ps = ps ++ replicate (30 - length ps) spare
 
 -- what an outbox holds; and the outbox that holds it
-unfoldable pub held_of : Outbox → List Place
+unfoldable pub held_of : Outbox → List Entry
 held_of b = take b.held b.places
 
-unfoldable pub box_of : ℕ → ℕ → ℕ → List Place → Outbox
+unfoldable pub box_of : ℕ → ℕ → ℕ → List Entry → Outbox
 box_of cell life next ps = record { cell = cell; life = life; next = next; held = length ps; places = padded ps }
 
 -- the count of the oldest; where it holds none, the next one
@@ -77,19 +71,34 @@ unfoldable pub numbers_ok : Outbox → Bool
 numbers_ok b = leb b.cell 255 && leb b.life 65535 && leb b.next 1000000 && leb b.held 30 && leb b.held b.next
 
 -- entries of this cell and life whose counts run on from this one
-unfoldable pub in_turn : ℕ → ℕ → ℕ → List Place → Bool
+unfoldable pub in_turn : ℕ → ℕ → ℕ → List Entry → Bool
 in_turn cell life count [] = true
-in_turn cell life count (p ∷ ps) = same (notice_of p.entry) (notice cell life count) && in_turn cell life (count + 1) ps
+in_turn cell life count (p ∷ ps) = same (notice_of p) (notice cell life count) && in_turn cell life (count + 1) ps
 
-unfoldable pub all_spare : List Place → Bool
+unfoldable pub all_spare : List Entry → Bool
 all_spare [] = true
-all_spare (p ∷ ps) = is_spare p.entry && all_spare ps
+all_spare (p ∷ ps) = is_spare p && all_spare ps
 
 -- the held entries are of its cell and present life, their counts run up to the next unused one, and the rest is spare
 unfoldable pub form_ok : Outbox → Bool
 form_ok b = numbers_ok b && in_turn b.cell b.life (oldest_of b) (held_of b) && all_spare (drop b.held b.places)
 
 -- ---- the calls
+-- an outbox handed back with its number: 0, or a refusal and the outbox as it came
+pub record Given : Type 0 where
+  pub outbox : Outbox
+  pub number : ℕ
+
+pub data Offered : Type 0 where
+  Oldest : Entry → Offered
+  Empty : Offered
+  BadForm : Offered
+
+pub record Replaced : Type 0 where
+  pub outbox : Outbox
+  pub number : ℕ
+  pub empty : Bool
+
 abbrev pub given : Outbox → ℕ → Given
 given b number = record { outbox = b; number = number }
 
@@ -103,9 +112,9 @@ unfoldable pub fresh_of : ℕ → Given
 fresh_of cell = given (box_of cell 0 0 []) (cond (leb cell 255) 0 not_next)
 
 -- it offers the oldest; empty, it says so
-unfoldable pub oldest : List Place → Offered
+unfoldable pub oldest : List Entry → Offered
 oldest [] = Empty
-oldest (p ∷ ps) = Oldest p.entry
+oldest (p ∷ ps) = Oldest p
 
 unfoldable pub offer_of : Outbox → Offered
 offer_of b = cond (form_ok b) (oldest (held_of b)) BadForm
@@ -115,15 +124,15 @@ unfoldable pub is_next : Outbox → Entry → Bool
 is_next b e = same (notice_of e) (notice b.cell b.life b.next) && leb b.next 999999
 
 unfoldable pub with_entry : Outbox → Entry → Outbox
-with_entry b e = box_of b.cell b.life (b.next + 1) (held_of b ++ (place e ∷ []))
+with_entry b e = box_of b.cell b.life (b.next + 1) (held_of b ++ (e ∷ []))
 
 unfoldable pub added_of : Outbox → Entry → Given
 added_of b e = unless (form_ok b) b bad_form (unless (is_next b e) b not_next (unless (ltb b.held 30) b full (given (with_entry b e) 0)))
 
 -- it puts a void in place of the oldest; empty, it says so
-unfoldable pub replacing : Outbox → List Place → Replaced
+unfoldable pub replacing : Outbox → List Entry → Replaced
 replacing b [] = record { outbox = b; number = 0; empty = true }
-replacing b (p ∷ ps) = record { outbox = box_of b.cell b.life b.next (place (void_of p.entry) ∷ ps); number = 0; empty = false }
+replacing b (p ∷ ps) = record { outbox = box_of b.cell b.life b.next (void_of p ∷ ps); number = 0; empty = false }
 
 unfoldable pub replaced_of : Outbox → Replaced
 replaced_of b = cond (form_ok b) (replacing b (held_of b)) (record { outbox = b; number = bad_form; empty = false })
@@ -145,3 +154,32 @@ is_higher b life = ltb b.life life && leb life 65535
 
 unfoldable pub swapped_of : Outbox → ℕ → Given
 swapped_of b life = unless (form_ok b) b bad_form (unless (is_higher b life) b not_next (given (box_of b.cell life 0 []) 0))
+
+-- ---- what the code's calls answer stands for
+abbrev pub refusal_number : Refusal → ℕ
+refusal_number Refusal.BadForm = bad_form
+refusal_number Refusal.NotNext = not_next
+refusal_number Refusal.Full = full
+
+-- the number of an answer: 0, or its refusal's
+abbrev pub number_of : {A : Type 0} → Result A Refusal → ℕ
+number_of (Ok x) = 0
+number_of (Err why) = refusal_number why
+
+-- a fresh outbox, with its number
+abbrev pub made : Result Outbox NoSuchCell → Given
+made (Ok b) = given b 0
+made (Err other) = given other.0 not_next
+
+abbrev pub offered : Offered → Result (Option Entry) Refusal
+offered (Oldest e) = Ok (Some e)
+offered Empty = Ok None
+offered BadForm = Err Refusal.BadForm
+
+-- an outbox after a replacing, which says whether there was one to replace
+abbrev pub found_empty : Result Bool Refusal → Bool
+found_empty (Ok some) = not some
+found_empty (Err why) = false
+
+abbrev pub replaced : Outbox → Result Bool Refusal → Replaced
+replaced b r = record { outbox = b; number = number_of r; empty = found_empty r }

@@ -1,7 +1,7 @@
 // The form of an outbox.
 ghost use Rattle.std.specs.Prelude.{◌≡◌, ◌≤◌, drop};
 ghost use Rattle.cell.specs.Ranges.{notice_of};
-ghost use Rattle.outbox.specs.Outbox.{same, is_zero, is_spare, held_of, oldest_of, in_turn, all_spare, form_ok};
+ghost use Rattle.outbox.specs.Outbox.{is_zero, is_spare, held_of, oldest_of, in_turn, all_spare, form_ok};
 
 use crate::Outbox;
 use cell::{Entry, Notice, Reading};
@@ -21,13 +21,8 @@ pub fn notice_of(e: Entry) -> Notice
     }
 }
 
-pub fn alike(a: Notice, b: Notice) -> bool
-    ensures { result ≡ same a b }
-{
-    (a.cell == b.cell) & (a.life == b.life) & (a.count == b.count)
-}
-
 // All of a reading is zero, the head's bits too.
+#[tactic(auto, unfolding(crate::specs::Outbox::is_zero))]
 fn is_zero(r: Reading) -> bool
     ensures { result ≡ is_zero r }
 {
@@ -52,55 +47,36 @@ fn is_spare(e: Entry) -> bool
 }
 
 // The entries held are the outbox's own, their counts running up to the next one.
-fn in_turn(b: Outbox) -> bool
-    requires { (b.held ≤ 30) × (b.held ≤ b.next) × (b.next ≤ 1000000) }
-    ensures { result ≡ in_turn b.cell b.life (oldest_of b) (held_of b) }
+fn in_turn(b: &Outbox) -> bool
+    requires { (b.now.held ≤ 30) × (b.now.held ≤ b.now.next) × (b.now.next ≤ 1000000) }
+    ensures { result ≡ in_turn b.now.cell b.now.life (oldest_of b.now) (held_of b.now) }
 {
-    let places = b.places;
-    let held = b.held as usize;
-    let mut ok = true;
-    let mut count = b.next - b.held;
-    let mut i: usize = 0;
-    while i < held {
-        let p = places[i];
-        let e = p.entry;
-        let due = Notice {
-            cell: b.cell,
-            life: b.life,
-            count,
-        };
-        ok = ok & alike(notice_of(e), due);
-        count += 1;
-        i += 1;
+    let mut due = Notice {
+        cell: b.cell,
+        life: b.life,
+        count: b.next - b.held,
+    };
+    for e in &b.places[..b.held as usize] {
+        if notice_of(*e) != due {
+            return false;
+        }
+        due.count += 1;
     }
-    ok
+    true
 }
 
 // The room behind the entries held is spare.
-fn rest_spare(b: Outbox) -> bool
-    requires { b.held ≤ 30 }
-    ensures { result ≡ all_spare (drop b.held b.places) }
+fn rest_spare(b: &Outbox) -> bool
+    requires { b.now.held ≤ 30 }
+    ensures { result ≡ all_spare (drop b.now.held b.now.places) }
 {
-    let places = b.places;
-    let mut ok = true;
-    let mut i = b.held as usize;
-    while i < 30 {
-        let p = places[i];
-        let e = p.entry;
-        ok = ok & is_spare(e);
-        i += 1;
-    }
-    ok
+    b.places[b.held as usize..].iter().all(|e| is_spare(*e))
 }
 
-pub fn form_ok(b: Outbox) -> bool
-    ensures { result ≡ form_ok b }
+pub fn form_ok(b: &Outbox) -> bool
+    ensures { result ≡ form_ok b.now }
 {
     let own = (b.cell <= 255) & (b.life <= 65535) & (b.next <= 1000000);
     let numbers = own & (b.held <= 30) & (b.held <= b.next);
-    if !numbers {
-        return false;
-    }
-    let turn = in_turn(b);
-    turn & rest_spare(b)
+    numbers && in_turn(b) && rest_spare(b)
 }

@@ -2,18 +2,12 @@
 #![tactic(auto)]
 
 ghost use Rattle.std.specs.Prelude.{◌≡◌};
-ghost use Rattle.outbox.specs.Outbox.{fresh_of, offer_of, is_next, added_of, replaced_of, acknowledged_of, swapped_of};
+ghost use Rattle.outbox.specs.Outbox.{refusal_number, number_of, given, made, offered, replaced, fresh_of, offer_of, is_next, added_of, replaced_of, acknowledged_of, swapped_of};
 
 use cell::{Entry, Notice};
 
 mod form;
 mod places;
-
-// Room for one entry.
-#[derive(Clone, Copy)]
-pub struct Place {
-    pub entry: Entry,
-}
 
 // The entries held stand first, the oldest of them first of all, with counts up to `next`; the room behind them is zero.
 #[derive(Clone, Copy)]
@@ -22,193 +16,142 @@ pub struct Outbox {
     pub life: u32,
     pub next: u32,
     pub held: u32,
-    pub places: [Place; 30],
+    pub places: [Entry; 30],
 }
 
-// An outbox handed back with its number: 0, or a refusal and the outbox as it came.
-#[derive(Clone, Copy)]
-pub struct Given {
-    pub outbox: Outbox,
-    pub number: u32,
-}
-
-#[derive(Clone, Copy)]
-pub enum Offered {
-    Oldest(Entry),
-    Empty,
+// Why an outbox turns a call away, in the order of the checks. It then stays as it came.
+#[derive(Clone, Copy, PartialEq, Eq, Debug)]
+pub enum Refusal {
     BadForm,
+    NotNext,
+    Full,
 }
 
-#[derive(Clone, Copy)]
-pub struct Replaced {
-    pub outbox: Outbox,
-    pub number: u32,
-    pub empty: bool,
+impl From<Refusal> for u32 {
+    ghost from_gives = { λ why number. number ≡ refusal_number why };
+
+    fn from(why: Refusal) -> u32 {
+        match why {
+            Refusal::BadForm => 23,
+            Refusal::NotNext => 14,
+            Refusal::Full => 13,
+        }
+    }
 }
+
+// A fresh outbox of a cell above 255, as it was asked for. It is out of its form.
+#[derive(Clone, Copy)]
+pub struct NoSuchCell(pub Outbox);
 
 impl Outbox {
     // A fresh outbox has life 0 and holds nothing.
-    pub fn fresh(cell: u32) -> Given
-        ensures { result ≡ fresh_of cell }
+    #[tactic(auto, unfolding(crate::specs::Outbox::fresh_of))]
+    pub fn fresh(cell: u32) -> Result<Outbox, NoSuchCell>
+        ensures { made result ≡ fresh_of cell }
     {
         let outbox = places::empty(cell, 0);
-        let number = if cell <= 255 { 0 } else { 14 };
-        Given { outbox, number }
+        if cell <= 255 {
+            Ok(outbox)
+        } else {
+            Err(NoSuchCell(outbox))
+        }
     }
 
-    // Offers the oldest.
-    pub fn offer(self) -> Offered
-        ensures { result ≡ offer_of self }
+    // Offers the oldest, where there is one.
+    #[tactic(auto, unfolding(crate::specs::Outbox::offer_of))]
+    pub fn offer(&self) -> Result<Option<Entry>, Refusal>
+        ensures { result ≡ offered (offer_of self.now) }
     {
         if !form::form_ok(self) {
-            return Offered::BadForm;
+            return Err(Refusal::BadForm);
         }
         if self.held == 0 {
-            return Offered::Empty;
+            return Ok(None);
         }
-        let places = self.places;
-        let p = places[0];
-        let e = p.entry;
-        Offered::Oldest(e)
+        Ok(Some(self.places[0]))
     }
 
     // Takes a new entry.
-    pub fn add(self, e: Entry) -> Given
-        ensures { result ≡ added_of self e }
+    #[tactic(auto, unfolding(crate::specs::Outbox::added_of, crate::specs::Outbox::unless))]
+    pub fn add(&mut self, e: Entry) -> Result<(), Refusal>
+        ensures { given self.new (number_of result) ≡ added_of self.old e }
     {
         if !form::form_ok(self) {
-            return Given {
-                outbox: self,
-                number: 23,
-            };
+            return Err(Refusal::BadForm);
         }
-        if !is_next(self, e) {
-            return Given {
-                outbox: self,
-                number: 14,
-            };
+        if !self.is_next(e) {
+            return Err(Refusal::NotNext);
         }
         if 30 <= self.held {
-            return Given {
-                outbox: self,
-                number: 13,
-            };
+            return Err(Refusal::Full);
         }
-        let old = self.places;
         let held = self.held as usize;
-        let mut places = places::kept(old, 0, held);
-        places[held] = Place { entry: e };
-        let outbox = Outbox {
-            cell: self.cell,
-            life: self.life,
-            next: self.next + 1,
-            held: self.held + 1,
-            places,
-        };
-        Given { outbox, number: 0 }
+        places::keep(&mut self.places, 0, held);
+        self.places[held] = e;
+        self.next += 1;
+        self.held += 1;
+        Ok(())
     }
 
-    // Puts a void in place of the oldest.
-    pub fn replace(self) -> Replaced
-        ensures { result ≡ replaced_of self }
+    // Puts a void in place of the oldest, and says whether there was one.
+    #[tactic(auto, unfolding(crate::specs::Outbox::replaced_of))]
+    pub fn replace(&mut self) -> Result<bool, Refusal>
+        ensures { replaced self.new result ≡ replaced_of self.old }
     {
         if !form::form_ok(self) {
-            return Replaced {
-                outbox: self,
-                number: 23,
-                empty: false,
-            };
+            return Err(Refusal::BadForm);
         }
         if self.held == 0 {
-            return Replaced {
-                outbox: self,
-                number: 0,
-                empty: true,
-            };
+            return Ok(false);
         }
-        let old = self.places;
-        let mut places = places::kept(old, 0, self.held as usize);
-        let p = places[0];
-        let e = p.entry;
-        places[0] = Place {
-            entry: Entry::Void(form::notice_of(e)),
-        };
-        let outbox = Outbox {
-            cell: self.cell,
-            life: self.life,
-            next: self.next,
-            held: self.held,
-            places,
-        };
-        Replaced {
-            outbox,
-            number: 0,
-            empty: false,
-        }
+        places::keep(&mut self.places, 0, self.held as usize);
+        self.places[0] = Entry::Void(form::notice_of(self.places[0]));
+        Ok(true)
     }
 
     // Takes an acknowledgement: the gateway's life and next count.
-    pub fn acknowledge(self, life: u32, next: u32) -> Given
-        ensures { result ≡ acknowledged_of self life next }
+    #[tactic(auto, unfolding(crate::specs::Outbox::acknowledged_of, crate::specs::Outbox::unless, crate::specs::Outbox::is_heard))]
+    pub fn acknowledge(&mut self, life: u32, next: u32) -> Result<(), Refusal>
+        ensures { given self.new (number_of result) ≡ acknowledged_of self.old life next }
     {
         if !form::form_ok(self) {
-            return Given {
-                outbox: self,
-                number: 23,
-            };
+            return Err(Refusal::BadForm);
         }
         let oldest = self.next - self.held;
         let heard = (life == self.life) & (oldest < next) & (next <= self.next);
-        if !heard {
-            return Given {
-                outbox: self,
-                number: 0,
-            };
+        if heard {
+            let removed = next - oldest;
+            places::keep(&mut self.places, removed as usize, self.held as usize);
+            self.held -= removed;
         }
-        let removed = next - oldest;
-        let old = self.places;
-        let places = places::kept(old, removed as usize, self.held as usize);
-        let outbox = Outbox {
-            cell: self.cell,
-            life: self.life,
-            next: self.next,
-            held: self.held - removed,
-            places,
-        };
-        Given { outbox, number: 0 }
+        Ok(())
     }
 
     // A battery swap: empties it and starts a higher life at 0.
-    pub fn swap(self, life: u32) -> Given
-        ensures { result ≡ swapped_of self life }
+    #[tactic(auto, unfolding(crate::specs::Outbox::swapped_of, crate::specs::Outbox::unless, crate::specs::Outbox::is_higher))]
+    pub fn swap(&mut self, life: u32) -> Result<(), Refusal>
+        ensures { given self.new (number_of result) ≡ swapped_of self.old life }
     {
         if !form::form_ok(self) {
-            return Given {
-                outbox: self,
-                number: 23,
-            };
+            return Err(Refusal::BadForm);
         }
         let higher = (self.life < life) & (life <= 65535);
         if !higher {
-            return Given {
-                outbox: self,
-                number: 14,
-            };
+            return Err(Refusal::NotNext);
         }
-        let outbox = places::empty(self.cell, life);
-        Given { outbox, number: 0 }
+        *self = places::empty(self.cell, life);
+        Ok(())
     }
-}
 
-// An entry is the next one: of the outbox's cell and life, at its next count, which is in range.
-fn is_next(b: Outbox, e: Entry) -> bool
-    ensures { result ≡ is_next b e }
-{
-    let due = Notice {
-        cell: b.cell,
-        life: b.life,
-        count: b.next,
-    };
-    let fits = b.next <= 999999;
-    form::alike(form::notice_of(e), due) & fits
+    // An entry is the next one: of the outbox's cell and life, at its next count, which is in range.
+    fn is_next(&self, e: Entry) -> bool
+        ensures { result ≡ is_next self.now e }
+    {
+        let due = Notice {
+            cell: self.cell,
+            life: self.life,
+            count: self.next,
+        };
+        (form::notice_of(e) == due) & (self.next <= 999999)
+    }
 }

@@ -1,58 +1,49 @@
 // The 30 places of an outbox.
-ghost use Rattle.std.specs.Prelude.{◌≡◌, [], ◌≤◌, drop, take, replicate};
+ghost use Rattle.std.specs.Prelude.{◌≡◌, [], ◌≤◌, drop, take};
 ghost use Rattle.outbox.specs.Outbox.{spare, padded, box_of};
 
-use crate::{Outbox, Place};
+use crate::Outbox;
 use cell::{Entry, Reading};
 
-// All of them spare.
-fn spares() -> [Place; 30]
-    ensures { result ≡ replicate 30 spare }
+// Spare room.
+fn spare() -> Entry
+    ensures { result ≡ spare }
 {
     let none = head::from_pattern(0);
-    let p = Place {
-        entry: Entry::Reading(Reading {
-            cell: 0,
-            life: 0,
-            count: 0,
-            rain: 0,
-            irrig: 0,
-            septic: 0,
-            etmin: 0,
-            pet: 0,
-            amc: 0,
-            head: none.value,
-            nan: none.nan,
-        }),
-    };
-    [p; 30]
+    Entry::Reading(Reading {
+        cell: 0,
+        life: 0,
+        count: 0,
+        rain: 0,
+        irrig: 0,
+        septic: 0,
+        etmin: 0,
+        pet: 0,
+        amc: 0,
+        head: none.value,
+        nan: none.nan,
+    })
 }
 
 // An outbox that holds nothing.
+#[tactic(auto, unfolding(crate::specs::Outbox::box_of, crate::specs::Outbox::padded))]
 pub fn empty(cell: u32, life: u32) -> Outbox
     ensures { result ≡ box_of cell life 0 [] }
 {
-    let places = spares();
     Outbox {
         cell,
         life,
         next: 0,
         held: 0,
-        places,
+        places: [spare(); 30],
     }
 }
 
-// The entries in places `first` to `held` - 1, moved to the start; the room behind them is spare.
-pub fn kept(places: [Place; 30], first: usize, held: usize) -> [Place; 30]
+// Moves the entries in places `first` to `held` - 1 to the start; the room behind them is spare.
+pub fn keep(places: &mut [Entry; 30], first: usize, held: usize)
     requires { (first ≤ held) × (held ≤ 30) }
-    ensures { result ≡ padded (drop first (take held places)) }
+    ensures { places.new ≡ padded (drop first (take held places.old)) }
 {
-    let mut out = spares();
-    let mut i: usize = 0;
-    while i < held - first {
-        let p = places[first + i];
-        out[i] = p;
-        i += 1;
-    }
-    out
+    places.copy_within(first..held, 0);
+    places[held - first..].fill(spare());
 }

@@ -1,11 +1,6 @@
--- A row written over, and a row number by number. Assumes nothing.
+-- A row number by number. Assumes nothing.
 use Rattle.std.specs.Prelude.{◌≡◌, List, [], ◌∷◌, ℕ, zero, suc, ◌+◌, length, drop, get_or}
-use Rattle.std.proofs.Common.{ap, ◌∙◌, append-nil, arith, drop_of_length-le, drop-cons}
-use Rattle.std.proofs.lemmas.List.Edits.{sets, sets-eq}
-
--- all of a row is written over
-pub sets_all : (l vs : List ℕ) → length vs ≡ length l → sets l 0 vs ≡ vs
-sets_all l vs e = sets-eq vs l 0 (omega arith) ∙ rw (drop_of_length-le l {i = 0 + length vs} (omega arith)) (append-nil vs)
+use Rattle.std.proofs.Common.{ap, arith, drop_of_length-le, drop-cons}
 
 -- so many numbers from a place on
 abbrev pub spread : List ℕ → ℕ → ℕ → List ℕ

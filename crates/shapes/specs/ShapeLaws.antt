@@ -47,3 +47,8 @@ pub zeros_from : reading_from (replicate reading_width 0)
     ≡ record { cell = 0; life = 0; count = 0; rain = 0; irrig = 0; septic = 0; etmin = 0; pet = 0; amc = 0; head = (carried_of 0).value; nan = (carried_of 0).nan }
 unfolding reading_from
 zeros_from = refl
+
+-- and three zeros a notice of zeros
+pub zero_notice : notice_from (replicate notice_width 0) ≡ record { cell = 0; life = 0; count = 0 }
+unfolding notice_from
+zero_notice = refl

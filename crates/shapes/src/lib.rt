@@ -1,67 +1,68 @@
 // The records that both static libraries hand over as rows of numbers, there and back: a reading and a notice.
 #![tactic(auto)]
 
-ghost use Rattle.std.specs.Prelude.{◌≡◌, length};
+ghost use Rattle.std.specs.Prelude.{◌≡◌};
 ghost use Rattle.shapes.specs.Shapes.{reading_from, reading_numbers, notice_from, notice_numbers};
 
 use cell::{Notice, Reading};
 use head::Carried;
 
-pub fn reading_from(l: &[u32]) -> Reading
-    requires { length l.now ≡ 10 }
+#[tactic(auto, unfolding(crate::specs::Shapes::reading_from))]
+pub fn reading_from(l: &[u32; 10]) -> Reading
     ensures { result ≡ reading_from l.now }
 {
-    let h = head::from_pattern(l[9]);
+    let [
+        cell,
+        life,
+        count,
+        rain,
+        irrig,
+        septic,
+        etmin,
+        pet,
+        amc,
+        bits,
+    ] = *l;
+    let h = head::from_pattern(bits);
     Reading {
-        cell: l[0],
-        life: l[1],
-        count: l[2],
-        rain: l[3],
-        irrig: l[4],
-        septic: l[5],
-        etmin: l[6],
-        pet: l[7],
-        amc: l[8],
+        cell,
+        life,
+        count,
+        rain,
+        irrig,
+        septic,
+        etmin,
+        pet,
+        amc,
         head: h.value,
         nan: h.nan,
     }
 }
 
-pub fn put_reading(r: Reading, out: &mut [u32])
-    requires { length out.old ≡ 10 }
-    ensures { out.new ≡ reading_numbers r }
+#[tactic(auto, unfolding(crate::specs::Shapes::reading_numbers))]
+pub fn reading_numbers(r: Reading) -> [u32; 10]
+    ensures { result ≡ reading_numbers r }
 {
-    out[0] = r.cell;
-    out[1] = r.life;
-    out[2] = r.count;
-    out[3] = r.rain;
-    out[4] = r.irrig;
-    out[5] = r.septic;
-    out[6] = r.etmin;
-    out[7] = r.pet;
-    out[8] = r.amc;
-    out[9] = head::pattern_of(Carried {
+    let bits = head::pattern_of(Carried {
         value: r.head,
         nan: r.nan,
     });
+    [
+        r.cell, r.life, r.count, r.rain, r.irrig, r.septic, r.etmin, r.pet, r.amc, bits,
+    ]
 }
 
-pub fn notice_from(l: &[u32]) -> Notice
-    requires { length l.now ≡ 3 }
+#[tactic(auto, unfolding(crate::specs::Shapes::notice_from))]
+pub fn notice_from(l: &[u32; 3]) -> Notice
     ensures { result ≡ notice_from l.now }
 {
-    Notice {
-        cell: l[0],
-        life: l[1],
-        count: l[2],
-    }
+    let [cell, life, count] = *l;
+    Notice { cell, life, count }
 }
 
-pub fn put_notice(n: Notice, out: &mut [u32])
-    requires { length out.old ≡ 3 }
-    ensures { out.new ≡ notice_numbers n }
+#[tactic(auto, unfolding(crate::specs::Shapes::notice_numbers))]
+pub fn notice_numbers(n: Notice) -> [u32; 3]
+    ensures { result ≡ notice_numbers n }
 {
-    out[0] = n.cell;
-    out[1] = n.life;
-    out[2] = n.count;
+    [n.cell, n.life, n.count]
 }

@@ -1,9 +1,8 @@
 -- Laws of the sheet over a step: the amounts of whatever the site answers are within the limit. Assumes nothing.
-use Rattle.std.specs.Prelude.{◌≡◌, refl, List, ℕ, ℤ}
+use Rattle.std.specs.Prelude.{◌≡◌, refl, List, ℕ, ℤ, Ok, Err}
 use Rattle.std.proofs.Common.{arith}
+use Rattle.cell.specs.Answers.{Answer}
 use Rattle.cell.specs.declared.Amounts.{Amounts}
-use Rattle.cell.specs.declared.Answer.{Answer}
-use Rattle.cell.specs.declared.Answer.TheVariants.{Accepted, Refused}
 use Rattle.cell.specs.declared.Card.{Card}
 use Rattle.cell.specs.declared.Entry.{Entry}
 use Rattle.cell.specs.Ranges.{row_width, cell_of}
@@ -35,8 +34,8 @@ pub site_within : (card : Card) (soil : List ℤ) (rows : List ℕ) (i : Entry) 
 site_within card soil rows i = go (site_answer card soil rows i) refl
   where
     go : (x : Answer) → site_answer card soil rows i ≡ x → AmountsWithin (amounts_of x)
-    go (Accepted a) e = step_within a (amounts_in card (part_at soil_width (cell_of i) soil) (part_at (row_width card) (cell_of i) rows) i a (row_answer card soil rows i a e))
-    go (Refused why) e =
+    go (Ok a) e = step_within a (amounts_in card (part_at soil_width (cell_of i) soil) (part_at (row_width card) (cell_of i) rows) i a (row_answer card soil rows i a e))
+    go (Err why) e =
         record {
           inflow = omega arith;
           runoff = omega arith;

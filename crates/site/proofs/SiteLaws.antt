@@ -1,16 +1,15 @@
 -- Laws of a step of the site and of clearing. Assumes nothing.
 use Rattle.std.proofs.Math.Path.{◌≡◌, refl, sym}
 use Rattle.std.proofs.Common.{ap, ◌∙◌, mul-le-mul_left}
-use Rattle.std.specs.Prelude.{Bool, cond, not, ◌&&◌, eqb, ℤ, length, get_or, take, drop, replicate}
+use Rattle.std.specs.Prelude.{Bool, cond, not, ◌&&◌, eqb, ℤ, length, get_or, take, drop, replicate, Ok, Err}
 use Rattle.std.proofs.Math.Bool.{true, false, and-eq-true_iff}
 use mathlib.Core.List.{List, [], ◌∷◌, ◌++◌}
 use Prim.Native.Nat.{ℕ, suc, ◌+◌, ◌*◌, ◌≤◌, ◌<◌}
 use native.Mathlib.Omega.{arith}
 use borrow.Author.Tests.{ltb-true, eqb-true, ne_eqb, not-false}
 use Rattle.std.proofs.lemmas.List.{length-replicate}
+use Rattle.cell.specs.Answers.{Answer}
 use Rattle.cell.specs.declared.Amounts.{Amounts}
-use Rattle.cell.specs.declared.Answer.{Answer}
-use Rattle.cell.specs.declared.Answer.TheVariants.{Accepted, Refused}
 use Rattle.cell.specs.declared.Card.{Card}
 use Rattle.cell.specs.declared.Entry.{Entry}
 use Rattle.cell.specs.declared.Notice.{Notice}
@@ -24,7 +23,7 @@ use Rattle.cell.proofs.CheckLaws.{row_number, refusal_in}
 use Rattle.cell.proofs.AnswerLaws.{step_taken, stays, bad_card, length_after, rain_taken}
 use Rattle.site.specs.Rows.{part_at, put_at}
 use Rattle.site.specs.RowsLaws.{put_back, put_same, put_other, put_length, put_outside, room, part_zeros}
-use Rattle.site.specs.Site.{soil_width, soil_fits, rows_fit, cell_fits, checks_of, refuse, site_answer, rows_by, site_rows, SiteGives, clear_number, clear_rows, ClearGives}
+use Rattle.site.specs.Site.{soil_width, soil_fits, rows_fit, cell_fits, checks_of, refuse, site_answer, rows_by, site_rows, SiteGives, clear_number, clear_answer, clear_rows, ClearGives}
 
 module _ (card : Card) (soil : List ℤ) (rows : List ℕ) (i : Entry) where
   abbrev soil_part : List ℤ
@@ -39,19 +38,19 @@ module _ (card : Card) (soil : List ℤ) (rows : List ℕ) (i : Entry) where
   unfolding site_answer
   by_checks p q s = rw (p, q, s)
 
-  pub lengths_bad : (soil_fits card soil && rows_fit card rows) ≡ false → site_answer card soil rows i ≡ Refused (cond (card_ok card) BadLengths BadCard)
+  pub lengths_bad : (soil_fits card soil && rows_fit card rows) ≡ false → site_answer card soil rows i ≡ Err (cond (card_ok card) BadLengths BadCard)
   unfolding refuse
   lengths_bad e = go (card_ok card) refl
     where
-      go : (a : Bool) → card_ok card ≡ a → site_answer card soil rows i ≡ Refused (cond a BadLengths BadCard)
+      go : (a : Bool) → card_ok card ≡ a → site_answer card soil rows i ≡ Err (cond a BadLengths BadCard)
       go true p = sym (by_checks p e refl)
       go false p = sym (by_checks p refl refl)
 
-  pub cell_bad : (soil_fits card soil && rows_fit card rows) ≡ true → cell_fits card i ≡ false → site_answer card soil rows i ≡ Refused (cond (card_ok card) BadCell BadCard)
+  pub cell_bad : (soil_fits card soil && rows_fit card rows) ≡ true → cell_fits card i ≡ false → site_answer card soil rows i ≡ Err (cond (card_ok card) BadCell BadCard)
   unfolding refuse
   cell_bad e f = go (card_ok card) refl
     where
-      go : (a : Bool) → card_ok card ≡ a → site_answer card soil rows i ≡ Refused (cond a BadCell BadCard)
+      go : (a : Bool) → card_ok card ≡ a → site_answer card soil rows i ≡ Err (cond a BadCell BadCard)
       go true p = sym (by_checks p e f)
       go false p = sym (by_checks p refl refl)
 
@@ -76,7 +75,7 @@ module _ (card : Card) (soil : List ℤ) (rows : List ℕ) (i : Entry) where
       go true p true q true s = rw (← by_checks p q s, p, q, s) (rw p at (row_number card soil_part row_part i))
 
   -- ---- the rows: refused, exactly as they came
-  pub rows_stay : (why : Refusal) → site_answer card soil rows i ≡ Refused why → site_rows card soil rows i ≡ rows
+  pub rows_stay : (why : Refusal) → site_answer card soil rows i ≡ Err why → site_rows card soil rows i ≡ rows
   unfolding site_rows rows_by
   rows_stay why e = rw e
 
@@ -89,39 +88,38 @@ module _ (card : Card) (soil : List ℤ) (rows : List ℕ) (i : Entry) where
       after = put_at (row_width card) (cell_of i) (new_row card soil_part row_part i) rows
 
       go : (b : Answer) → answer_of card soil_part row_part i ≡ b → rows_by (site_answer card soil rows i) after rows ≡ after
-      go (Accepted a) g = rw (reached e f, g)
-      go (Refused why) g = rw (reached e f, g) (sym (rw (stays card soil_part row_part i why g) (put_back (row_width card) (cell_of i) rows)))
+      go (Ok a) g = rw (reached e f, g)
+      go (Err why) g = rw (reached e f, g) (sym (rw (stays card soil_part row_part i why g) (put_back (row_width card) (cell_of i) rows)))
 
   -- [6] 15 is the named row's: the checks before it are passed
-  pub full_card : site_answer card soil rows i ≡ Refused FullSums → card_ok card ≡ true
+  pub full_card : site_answer card soil rows i ≡ Err FullSums → card_ok card ≡ true
   unfolding refuse
   full_card e = go (card_ok card) refl
     where
       go : (a : Bool) → card_ok card ≡ a → a ≡ true
       go true p = refl
       go false p =
-          let b : Refused BadCard ≡ Refused FullSums = by_checks p refl refl ∙ e in
-          let z : ◌≡◌ {A = ℕ} 0 1 = cc in
-          absurd (omega arith)
+          let b : ◌≡◌ {A = Answer} (Err BadCard) (Err FullSums) = by_checks p refl refl ∙ e in
+          cc
 
-  pub full_reached : site_answer card soil rows i ≡ Refused FullSums → (length rows ≡ row_width card * card.cells) × (answer_of card soil_part row_part i ≡ Refused FullSums)
+  pub full_reached : site_answer card soil rows i ≡ Err FullSums → (length rows ≡ row_width card * card.cells) × (answer_of card soil_part row_part i ≡ Err FullSums)
   unfolding rows_fit
   full_reached e = go (soil_fits card soil && rows_fit card rows) refl (cell_fits card i) refl
     where
-      never : (a : Bool) (why : Refusal) → ¬ (why ≡ FullSums) → ¬ (Refused (cond a why BadCard) ≡ Refused FullSums)
+      never : (a : Bool) (why : Refusal) → ¬ (why ≡ FullSums) → ¬ (◌≡◌ {A = Answer} (Err (cond a why BadCard)) (Err FullSums))
       never true why n f = n (cc)
-      never false why n f = let z : ◌≡◌ {A = ℕ} 0 1 = cc in omega arith
+      never false why n f = cc
 
-      go : (b : Bool) → (soil_fits card soil && rows_fit card rows) ≡ b → (c : Bool) → cell_fits card i ≡ c → (length rows ≡ row_width card * card.cells) × (answer_of card soil_part row_part i ≡ Refused FullSums)
-      go false q c s = absurd (never (card_ok card) BadLengths (λ f. let z : ◌≡◌ {A = ℕ} 0 1 = cc in omega arith) (sym (lengths_bad q) ∙ e))
-      go true q false s = absurd (never (card_ok card) BadCell (λ f. let z : ◌≡◌ {A = ℕ} 0 1 = cc in omega arith) (sym (cell_bad q s) ∙ e))
+      go : (b : Bool) → (soil_fits card soil && rows_fit card rows) ≡ b → (c : Bool) → cell_fits card i ≡ c → (length rows ≡ row_width card * card.cells) × (answer_of card soil_part row_part i ≡ Err FullSums)
+      go false q c s = absurd (never (card_ok card) BadLengths (λ f. cc) (sym (lengths_bad q) ∙ e))
+      go true q false s = absurd (never (card_ok card) BadCell (λ f. cc) (sym (cell_bad q s) ∙ e))
       go true q true s =
           (eqb-true (length rows) (row_width card * card.cells) ((and-eq-true_iff (soil_fits card soil) (rows_fit card rows)).0 q).1, sym (reached q s) ∙ e)
 
   -- ---- an accepted step: what was checked, and what it left
-  module _ (a : Amounts) (e : site_answer card soil rows i ≡ Accepted a) where
-    no_refusal : (why : Refusal) → site_answer card soil rows i ≡ Refused why → ⊥
-    no_refusal why f = let z : ◌≡◌ {A = ℕ} 0 1 = cc in omega arith
+  module _ (a : Amounts) (e : site_answer card soil rows i ≡ Ok a) where
+    no_refusal : (why : Refusal) → site_answer card soil rows i ≡ Err why → ⊥
+    no_refusal why f = cc
 
     lengths_were : (soil_fits card soil && rows_fit card rows) ≡ true
     lengths_were = go (soil_fits card soil && rows_fit card rows) refl
@@ -137,7 +135,7 @@ module _ (card : Card) (soil : List ℤ) (rows : List ℕ) (i : Entry) where
         go true q = refl
         go false q = absurd (no_refusal _ (cell_bad lengths_were q))
 
-    pub row_answer : answer_of card soil_part row_part i ≡ Accepted a
+    pub row_answer : answer_of card soil_part row_part i ≡ Ok a
     row_answer = sym (reached lengths_were cell_was) ∙ e
 
     pub card_was : card_ok card ≡ true
@@ -174,7 +172,7 @@ module _ (card : Card) (soil : List ℤ) (rows : List ℕ) (i : Entry) where
     rows_length = rw rows_are (put_length (row_width card) (cell_of i) (new_row card soil_part row_part i) rows new_length has_room)
 
 -- [7] the rain of an accepted reading is at most 600,000
-pub rain_most : (card : Card) (soil : List ℤ) (rows : List ℕ) (r : Reading) (a : Amounts) → site_answer card soil rows (Entry.Reading r) ≡ Accepted a → r.rain ≤ 600000
+pub rain_most : (card : Card) (soil : List ℤ) (rows : List ℕ) (r : Reading) (a : Amounts) → site_answer card soil rows (Entry.Reading r) ≡ Ok a → r.rain ≤ 600000
 rain_most card soil rows r a e =
     rain_taken card (part_at soil_width r.cell soil) (part_at (row_width card) r.cell rows) r a (row_answer card soil rows (Entry.Reading r) a e)
 
@@ -182,8 +180,8 @@ rain_most card soil rows r a e =
 module _ (card : Card) (soil : List ℤ) (rows : List ℕ) (i : Entry) where
   amounts_by_lem : (x : Answer) → site_answer card soil rows i ≡ x
       → amounts_of x ≡ cond (eqb (number_of x) 0) (amounts_of (answer_of card (part_at soil_width (cell_of i) soil) (part_at (row_width card) (cell_of i) rows) i)) nothing
-  amounts_by_lem (Accepted a) e = rw (row_answer card soil rows i a e)
-  amounts_by_lem (Refused why) e = rw (ne_eqb (refusal_number why) 0 (λ z. omega (arith, (refusal_in why).0)))
+  amounts_by_lem (Ok a) e = rw (row_answer card soil rows i a e)
+  amounts_by_lem (Err why) e = rw (ne_eqb (refusal_number why) 0 (λ z. omega (arith, (refusal_in why).0)))
 
   pub gives : {answer : Answer} {after : List ℕ} → answer ≡ site_answer card soil rows i → after ≡ site_rows card soil rows i → SiteGives card soil rows i answer after
   gives p q =
@@ -197,20 +195,20 @@ module _ (card : Card) (soil : List ℤ) (rows : List ℕ) (i : Entry) where
 
 -- ---- clearing, by its two checks
 module _ (card : Card) (rows : List ℕ) where
-  pub clear_card : card_ok card ≡ false → ClearGives card rows (refusal_number BadCard) rows
-  unfolding clear_number clear_rows
-  clear_card p = record { number_is = rw p; rows_are = rw p }
+  pub clear_card : card_ok card ≡ false → ClearGives card rows (Err BadCard) rows
+  unfolding clear_number clear_answer refuse clear_rows
+  clear_card p = record { answer_is = rw p; number_is = rw p; rows_are = rw p }
 
-  pub clear_long : card_ok card ≡ true → rows_fit card rows ≡ false → ClearGives card rows (refusal_number BadLengths) rows
-  unfolding clear_number clear_rows
-  clear_long p q = record { number_is = rw (p, q); rows_are = rw (p, q) }
+  pub clear_long : card_ok card ≡ true → rows_fit card rows ≡ false → ClearGives card rows (Err BadLengths) rows
+  unfolding clear_number clear_answer refuse clear_rows
+  clear_long p q = record { answer_is = rw (p, q); number_is = rw (p, q); rows_are = rw (p, q) }
 
-  pub clear_done : card_ok card ≡ true → rows_fit card rows ≡ true → ClearGives card rows 0 (replicate (length rows) 0)
-  unfolding clear_number clear_rows
-  clear_done p q = record { number_is = rw (p, q); rows_are = rw (p, q) }
+  pub clear_done : card_ok card ≡ true → rows_fit card rows ≡ true → ClearGives card rows (Ok tt) (replicate (length rows) 0)
+  unfolding clear_number clear_answer refuse clear_rows
+  clear_done p q = record { answer_is = rw (p, q); number_is = rw (p, q); rows_are = rw (p, q) }
 
 -- ---- a step that is refused gives the rows as they came
-pub refused_gives : (card : Card) (soil : List ℤ) (rows : List ℕ) (i : Entry) (why : Refusal) → site_answer card soil rows i ≡ Refused why → SiteGives card soil rows i (Refused why) rows
+pub refused_gives : (card : Card) (soil : List ℤ) (rows : List ℕ) (i : Entry) (why : Refusal) → site_answer card soil rows i ≡ Err why → SiteGives card soil rows i (Err why) rows
 refused_gives card soil rows i why e = gives card soil rows i (sym e) (sym (rows_stay card soil rows i why e))
 
 -- ---- an entry refused with 8, 17, 9, 10 or 15 does not use up its count
@@ -236,9 +234,9 @@ both_pass (check ∷ more) others e f = go check.1 refl (both_pass more others)
     go true p ih = rw p (ih (rw p at e) f)
     go false p ih = rw p (rw p at e)
 
-if_none_fails : (x : Answer) → number_of x ≡ 0 → (a : Amounts) × (x ≡ Accepted a)
-if_none_fails (Accepted a) e = (a, refl)
-if_none_fails (Refused why) e = absurd (omega (arith, (refusal_in why).0))
+if_none_fails : (x : Answer) → number_of x ≡ 0 → (a : Amounts) × (x ≡ Ok a)
+if_none_fails (Ok a) e = (a, refl)
+if_none_fails (Err why) e = absurd (omega (arith, (refusal_in why).0))
 
 -- where each number is below n, so is that of the first failing check
 first_below : (n : ℕ) (checks : List (ℕ × Bool)) → 0 < n → Below n checks → first_failing checks < n
@@ -267,8 +265,8 @@ pub count_open : (card : Card) (soil : List ℤ) (rows : List ℕ) (i i' : Entry
 count_open card soil rows i i' {answer} {after} g h n = (stay, same, ap first_failing same ∙ were)
   where
     by : (x : Answer) → site_answer card soil rows i ≡ x → 8 ≤ number_of x → site_rows card soil rows i ≡ rows
-    by (Accepted a) e k = absurd (omega arith)
-    by (Refused why) e k = rows_stay card soil rows i why e
+    by (Ok a) e k = absurd (omega arith)
+    by (Err why) e k = rows_stay card soil rows i why e
 
     stay : after ≡ rows
     stay = g.rows_are ∙ by (site_answer card soil rows i) refl (rw g.answer_is at h)
@@ -289,7 +287,7 @@ void_number card soil rows n =
 
 -- [3] so a reading that was refused with 8, 17, 9, 10 or 15, its life and count in range, can be mended: a void of its cell, life and count is accepted
 pub void_mends : (card : Card) (soil : List ℤ) (rows : List ℕ) (r : Reading) {answer : Answer} {after : List ℕ} → SiteGives card soil rows (Entry.Reading r) answer after → 8 ≤ number_of answer
-    → notice_ok (noticed r) ≡ true → (a : Amounts) × (site_answer card soil after (Entry.Void (noticed r)) ≡ Accepted a)
+    → notice_ok (noticed r) ≡ true → (a : Amounts) × (site_answer card soil after (Entry.Void (noticed r)) ≡ Ok a)
 unfolding checks_of
 void_mends card soil rows r {answer} {after} g h k =
     let i = Entry.Void (noticed r) in
@@ -333,12 +331,12 @@ module _ (card : Card) (soil soil' : List ℤ) (rows rows' : List ℕ) (i : Entr
   same_new_row = go (site_answer card soil rows i) refl
     where
       go : (b : Answer) → site_answer card soil rows i ≡ b → part_at (row_width card) (cell_of i) (site_rows card soil rows i) ≡ part_at (row_width card) (cell_of i) (site_rows card soil' rows' i)
-      go (Accepted a) e =
+      go (Ok a) e =
           own_row card soil rows i a e
           ∙ ap (λ (s : List ℤ). new_row card s (part_at (row_width card) (cell_of i) rows) i) same-soil
           ∙ ap (λ (w : List ℕ). new_row card (part_at soil_width (cell_of i) soil') w i) same_row
           ∙ sym (own_row card soil' rows' i a (sym same_answer ∙ e))
-      go (Refused why) e =
+      go (Err why) e =
           ap (part_at (row_width card) (cell_of i)) (rows_stay card soil rows i why e)
           ∙ same_row
           ∙ sym (ap (part_at (row_width card) (cell_of i)) (rows_stay card soil' rows' i why (sym same_answer ∙ e)))

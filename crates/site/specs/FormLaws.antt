@@ -1,7 +1,7 @@
 -- [6] Laws of the two forms of rows: back after over gives the very rows; moves and collecting keep every cell's life, next count and slots. Assumes nothing.
 use Rattle.std.proofs.Math.Path.{◌≡◌, refl, ap}
 use Rattle.std.proofs.Common.{sym, ◌∙◌, arith}
-use Rattle.std.specs.Prelude.{Bool, cond, length, get_or}
+use Rattle.std.specs.Prelude.{Bool, cond, length, get_or, Result, Err}
 use Rattle.std.proofs.Math.Bool.{true, false}
 use mathlib.Core.List.{List}
 use Prim.Native.Nat.{ℕ, zero, suc, ◌+◌, ◌*◌, ◌≤◌, ◌<◌}
@@ -13,15 +13,17 @@ use Rattle.cell.specs.Ranges.{card_ok, form_ok, row_width, row_ok}
 use Rattle.cell.specs.RangeLaws.{row_in, card_in}
 use Rattle.cell.specs.Sums.{front_width, runoff_at, drain_at, sum_numbers, sum_of, no_sums, emptied}
 use Rattle.cell.proofs.SumLaws.{SameFront, front_of, no_sum, none_held, none_told, form_moved, emptied_front, emptied_length, emptied_other, emptied_runoff, emptied_drain}
-use Rattle.cell.specs.Water.{water}
-use Rattle.cell.specs.Collect.{collect_number, collected_by, list_by, CollectGives}
-use Rattle.cell.specs.CollectLaws.{collect_number_lem}
+use Rattle.cell.specs.declared.Refusal.{Refusal}
+use Rattle.cell.specs.declared.Refusal.TheVariants.{BadCard, BadLengths, BadCell}
+use Rattle.cell.specs.Refusals.{refusal_number, number_of}
+use Rattle.cell.specs.Collect.{collect_number, collect_answer, sums_of, collected_by, list_by, CollectGives}
+use Rattle.cell.specs.CollectLaws.{collect_number_lem, collect_gives}
 use Rattle.site.specs.Rows.{part_at, put_at}
 use Rattle.site.specs.RowsLaws.{put_back, put_same, put_other, put_length, put_outside, room, part_length}
-use Rattle.site.specs.Site.{rows_fit}
+use Rattle.site.specs.Site.{rows_fit, refuse}
 use Rattle.site.specs.Moves.{recut, Cut}
 use Rattle.site.specs.MoveLaws.{recut_first, recut_zero, all_length, all_part, all_told, all_from, back_after_over, Movable, move_passed, move_fine}
-use Rattle.site.specs.Forms.{sums_width, grow_number, grown_rows, GrowGives, shrink_number, shrunk_rows, ShrinkGives, collecting_number, collected_rows, SumsGive}
+use Rattle.site.specs.Forms.{sums_width, grow_number, grown_rows, GrowGives, shrink_number, shrunk_rows, ShrinkGives, collecting_number, collecting_answer, collected_rows, SumsGive}
 
 -- the two cuts
 pub over : Cut front_width runoff_at 0 sum_numbers
@@ -136,24 +138,34 @@ module _ (card : Card) (rows : List ℕ) (cell : ℕ) where
   unfolding collecting_number
   collecting_by p q s = rw (p, q, s)
 
-  nothing_got : {n : ℕ} → suc n ≡ collecting_number card rows cell → SumsGive card rows cell (record { number = suc n; runoff = water 0; drain = water 0 }) rows
-  nothing_got e = record { got_is = rw (sym e); rows_are = rw (sym e) }
+  answer_by : {a b c : Bool} → card_ok card ≡ a → rows_fit card rows ≡ b → ltb cell card.cells ≡ c
+      → refuse a BadCard (refuse b BadLengths (refuse c BadCell (collect_answer card row))) ≡ collecting_answer card rows cell
+  unfolding collecting_answer
+  answer_by p q s = rw (p, q, s)
 
-  pub collect_bad_card : card_ok card ≡ false → SumsGive card rows cell (record { number = 1; runoff = water 0; drain = water 0 }) rows
-  collect_bad_card p = nothing_got (collecting_by p refl refl)
+  nothing_got : (why : Refusal) {n : ℕ} → refusal_number why ≡ suc n → Err why ≡ collecting_answer card rows cell → suc n ≡ collecting_number card rows cell → SumsGive card rows cell (Err why) rows
+  nothing_got why w a e = record { answer_is = a; number_is = w ∙ e; got_is = rw (sym e); rows_are = rw (sym e) }
 
-  pub collect_bad_length : card_ok card ≡ true → rows_fit card rows ≡ false → SumsGive card rows cell (record { number = 2; runoff = water 0; drain = water 0 }) rows
-  collect_bad_length p q = nothing_got (collecting_by p q refl)
+  pub collect_bad_card : card_ok card ≡ false → SumsGive card rows cell (Err BadCard) rows
+  unfolding refuse
+  collect_bad_card p = nothing_got BadCard refl (answer_by p refl refl) (collecting_by p refl refl)
 
-  pub collect_bad_cell : card_ok card ≡ true → rows_fit card rows ≡ true → ltb cell card.cells ≡ false → SumsGive card rows cell (record { number = 3; runoff = water 0; drain = water 0 }) rows
-  collect_bad_cell p q s = nothing_got (collecting_by p q s)
+  pub collect_bad_length : card_ok card ≡ true → rows_fit card rows ≡ false → SumsGive card rows cell (Err BadLengths) rows
+  unfolding refuse
+  collect_bad_length p q = nothing_got BadLengths refl (answer_by p q refl) (collecting_by p q refl)
+
+  pub collect_bad_cell : card_ok card ≡ true → rows_fit card rows ≡ true → ltb cell card.cells ≡ false → SumsGive card rows cell (Err BadCell) rows
+  unfolding refuse
+  collect_bad_cell p q s = nothing_got BadCell refl (answer_by p q s) (collecting_by p q s)
 
   -- what the named row gave, put back in its place
-  pub collect_reached : card_ok card ≡ true → rows_fit card rows ≡ true → ltb cell card.cells ≡ true → {got : Collected} {after : List ℕ} → CollectGives card row got after → SumsGive card rows cell got (put_at (row_width card) cell after rows)
-  unfolding collected_rows
+  pub collect_reached : card_ok card ≡ true → rows_fit card rows ≡ true → ltb cell card.cells ≡ true → {got : Result Collected Refusal} {after : List ℕ} → CollectGives card row got after → SumsGive card rows cell got (put_at (row_width card) cell after rows)
+  unfolding collected_rows refuse
   collect_reached p q s {got} {after} g =
       let e : collect_number card row ≡ collecting_number card rows cell = collect_number_lem card row p ∙ collecting_by p q s in
       record {
+        answer_is = g.answer_is ∙ answer_by p q s;
+        number_is = g.number_is ∙ e;
         got_is = g.got_is ∙ ap (λ (k : ℕ). collected_by k row) e;
         rows_are = ap (λ (t : List ℕ). put_at (row_width card) cell t rows) g.row_is ∙ go (collect_number card row) ∙ ap (λ (k : ℕ). list_by k (put_at (row_width card) cell (emptied row) rows) rows) e;
       }
@@ -161,6 +173,19 @@ module _ (card : Card) (rows : List ℕ) (cell : ℕ) where
       go : (n : ℕ) → put_at (row_width card) cell (list_by n (emptied row) row) rows ≡ list_by n (put_at (row_width card) cell (emptied row) rows) rows
       go zero = refl
       go (suc n) = put_back (row_width card) cell rows
+
+  -- by its checks a call has an answer and rows, which are those of the definitions
+  some_give : (got : Result Collected Refusal) × (after : List ℕ) × SumsGive card rows cell got after
+  some_give = go (card_ok card) refl (rows_fit card rows) refl (ltb cell card.cells) refl
+    where
+      go : (a : Bool) → card_ok card ≡ a → (b : Bool) → rows_fit card rows ≡ b → (c : Bool) → ltb cell card.cells ≡ c → (got : Result Collected Refusal) × (after : List ℕ) × SumsGive card rows cell got after
+      go false p b q c s = (_, _, collect_bad_card p)
+      go true p false q c s = (_, _, collect_bad_length p q)
+      go true p true q false s = (_, _, collect_bad_cell p q s)
+      go true p true q true s = (_, _, collect_reached p q s (collect_gives card row))
+
+  pub sums_give : SumsGive card rows cell (collecting_answer card rows cell) (list_by (collecting_number card rows cell) (collected_rows card cell rows) rows)
+  sums_give = let g = some_give.2 in record { answer_is = refl; number_is = ap number_of (sym g.answer_is) ∙ g.number_is; got_is = ap sums_of (sym g.answer_is) ∙ g.got_is; rows_are = refl }
 
   -- ---- where it was collected
   module _ (z : collecting_number card rows cell ≡ 0) where

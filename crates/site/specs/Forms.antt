@@ -1,14 +1,15 @@
 -- [6] The two forms of stored rows, without sums and with them: the move over and back; and collecting a cell. Definitions only.
-use Rattle.std.specs.Prelude.{ℕ, ◌+◌, ◌≡◌, true, false, List, [], ◌∷◌, ltb}
+use Rattle.std.specs.Prelude.{ℕ, ◌+◌, ◌≡◌, true, false, List, [], ◌∷◌, ltb, Result}
 use Rattle.cell.specs.declared.Card.{Card}
 use Rattle.cell.specs.declared.Collected.{Collected}
+use Rattle.cell.specs.declared.Refusal.{Refusal}
 use Rattle.cell.specs.declared.Refusal.TheVariants.{BadCard, BadLengths, BadCell, BadRow}
 use Rattle.cell.specs.Ranges.{card_ok, row_width, row_ok}
-use Rattle.cell.specs.Refusals.{refusal_number, first_failing}
+use Rattle.cell.specs.Refusals.{refusal_number, first_failing, number_of}
 use Rattle.cell.specs.Sums.{front_width, runoff_at, sum_numbers, emptied}
-use Rattle.cell.specs.Collect.{collected_by, list_by}
+use Rattle.cell.specs.Collect.{collected_by, sums_of, collect_answer, list_by}
 use Rattle.site.specs.Rows.{part_at, put_at}
-use Rattle.site.specs.Site.{rows_fit}
+use Rattle.site.specs.Site.{rows_fit, refuse}
 use Rattle.site.specs.Moves.{recut_all, move_number, MoveGives}
 
 -- a row with sums
@@ -48,7 +49,17 @@ collecting_number card rows cell =
 unfoldable pub collected_rows : Card → ℕ → List ℕ → List ℕ
 collected_rows card cell rows = put_at (row_width card) cell (emptied (part_at (row_width card) cell rows)) rows
 
+-- both sums, or the refusal of the check that fails
+unfoldable pub collecting_answer : Card → List ℕ → ℕ → Result Collected Refusal
+collecting_answer card rows cell =
+    refuse (card_ok card) BadCard
+    (refuse (rows_fit card rows) BadLengths
+    (refuse (ltb cell card.cells) BadCell
+    (collect_answer card (part_at (row_width card) cell rows))))
+
 -- both sums of the cell, which are then 0, and no other number of the slice changes
-pub record SumsGive (card : Card) (rows : List ℕ) (cell : ℕ) (got : Collected) (after : List ℕ) : Type 0 where
-  pub got_is : got ≡ collected_by (collecting_number card rows cell) (part_at (row_width card) cell rows)
+pub record SumsGive (card : Card) (rows : List ℕ) (cell : ℕ) (got : Result Collected Refusal) (after : List ℕ) : Type 0 where
+  pub answer_is : got ≡ collecting_answer card rows cell
+  pub number_is : number_of got ≡ collecting_number card rows cell
+  pub got_is : sums_of got ≡ collected_by (collecting_number card rows cell) (part_at (row_width card) cell rows)
   pub rows_are : after ≡ list_by (collecting_number card rows cell) (collected_rows card cell rows) rows

@@ -1,23 +1,27 @@
 -- [6] Laws of rows in another form, over the width, the place and how many numbers: each row is the one it comes from, cut anew; and back after over is the very slice. Assumes nothing.
 use Rattle.std.proofs.Math.Path.{◌≡◌, refl, ap}
 use Rattle.std.proofs.Common.{sym, ◌∙◌, eq-or-lt_of_le, le_of_suc-le-suc, take-append-drop, take_at, drop_at, take_all}
-use Rattle.std.specs.Prelude.{Bool, cond, ◌&&◌, eqb, replicate}
+use Rattle.std.specs.Prelude.{Result, Ok, Err, [], ◌∷◌, Bool, cond, ◌&&◌, eqb, replicate}
 use Rattle.std.proofs.Math.Bool.{true, false, and-eq-true_iff}
 use Rattle.std.proofs.Math.Logic.{⊎_elim}
 use mathlib.Core.List.{List, ◌++◌, append_assoc}
 use Prim.Native.Nat.{ℕ, zero, suc, ◌+◌, ◌-◌, ◌*◌, ◌≤◌, ◌<◌}
 use Rattle.std.proofs.Math.Nat.{mul-le-mul_left, mul-suc}
 use native.Mathlib.Omega.{arith}
-use borrow.Author.Tests.{eqb-true, eq-eqb, ne_eqb}
+use Rattle.std.proofs.Common.{eqb-true, eq-eqb, ne_eqb}
 use Rattle.std.proofs.Math.ListN.{length, get_or, take, drop, length-append, length-take, length-drop, length-replicate, get_or-append}
 use Rattle.std.proofs.Math.Seq.{length-take-le, take-add, take-append-le, take-take, get_or-take, get_or-drop, get_or-append-add}
 use Rattle.std.proofs.lemmas.List.{drop-append-le}
 use Rattle.cell.specs.declared.Card.{Card}
+use Rattle.cell.specs.declared.Refusal.{Refusal}
+use Rattle.cell.specs.declared.Refusal.TheVariants.{BadCard, BadLengths, BadCell, BadSoil, BadRow, Old, Gap, BadReading, JammedBucket, UnusableHead, InactiveHead, FullSums}
 use Rattle.cell.specs.Ranges.{card_ok, form_ok}
 use Rattle.cell.specs.Sums.{no_sums}
-use Rattle.cell.specs.Collect.{list_by}
+use Rattle.site.specs.declared.moves.Unmoved.{Unmoved}
+use Rattle.site.specs.declared.moves.Unmoved.TheVariants.{Refused, Uncollected}
 use Rattle.site.specs.Rows.{part_at}
-use Rattle.site.specs.Moves.{recut, width_after, recut_all, all_rows, Cut, move_number, MoveGives}
+use Rattle.cell.specs.Collect.{list_by}
+use Rattle.site.specs.Moves.{recut, width_after, recut_all, all_rows, Cut, moved_number, move_number, MoveGives}
 
 zeros_at : (n i : ℕ) → ◌≡◌ {A = ℕ} (get_or (replicate n 0) i 0) 0
 zeros_at zero i = refl
@@ -249,3 +253,33 @@ module _ (w p out more : ℕ) (empty : Bool) (card : Card) (from to : List ℕ) 
 
   pub move_done : n ≡ 0 → {after : List ℕ} → after ≡ recut_all card.cells w p out more from → MoveGives w p out more empty card from to n after
   move_done z f = record { number_is = e; rows_are = rw (sym e ∙ z) f }
+
+-- ---- what a move answers, by its number
+abbrev refused : Refusal → Result (Unit {0}) Unmoved
+refused why = Err (Refused why)
+
+abbrev answer_by : ℕ → Result (Unit {0}) Unmoved
+answer_by n =
+    get_or
+    (Ok tt ∷ refused BadCard ∷ refused BadLengths ∷ refused BadCell ∷ refused BadSoil ∷ refused BadRow ∷ refused Old ∷ refused Gap ∷ refused BadReading ∷ refused UnusableHead
+    ∷ refused InactiveHead ∷ Ok tt ∷ Ok tt ∷ Ok tt ∷ Ok tt ∷ refused FullSums ∷ Err Uncollected ∷ refused JammedBucket ∷ []) n (Ok tt)
+
+by_number : (r : Result (Unit {0}) Unmoved) → answer_by (moved_number r) ≡ r
+by_number (Ok tt) = refl
+by_number (Err Uncollected) = refl
+by_number (Err (Refused BadCard)) = refl
+by_number (Err (Refused BadLengths)) = refl
+by_number (Err (Refused BadCell)) = refl
+by_number (Err (Refused BadSoil)) = refl
+by_number (Err (Refused BadRow)) = refl
+by_number (Err (Refused Old)) = refl
+by_number (Err (Refused Gap)) = refl
+by_number (Err (Refused BadReading)) = refl
+by_number (Err (Refused JammedBucket)) = refl
+by_number (Err (Refused UnusableHead)) = refl
+by_number (Err (Refused InactiveHead)) = refl
+by_number (Err (Refused FullSums)) = refl
+
+-- no two answers have the same number
+pub number_tells : (r r' : Result (Unit {0}) Unmoved) → moved_number r ≡ moved_number r' → r ≡ r'
+number_tells r r' e = sym (by_number r) ∙ ap answer_by e ∙ by_number r'

@@ -1,11 +1,13 @@
 -- [6] Rows in another form: at one place of every row numbers are taken out, and zeros are put in. Definitions only.
-use Rattle.std.specs.Prelude.{◌≡◌, Bool, true, cond, ◌&&◌, List, [], ◌∷◌, ◌++◌, ℕ, zero, suc, ◌+◌, ◌-◌, ◌*◌, ◌≤◌, eqb, length, take, drop, replicate}
+use Rattle.std.specs.Prelude.{◌≡◌, Bool, true, cond, ◌&&◌, Result, Ok, Err, List, [], ◌∷◌, ◌++◌, ℕ, zero, suc, ◌+◌, ◌-◌, ◌*◌, ◌≤◌, eqb, length, take, drop, replicate}
 use Rattle.cell.specs.declared.Card.{Card}
 use Rattle.cell.specs.declared.Refusal.TheVariants.{BadCard, BadLengths, BadRow}
 use Rattle.cell.specs.Ranges.{card_ok, form_ok}
 use Rattle.cell.specs.Refusals.{refusal_number, first_failing, uncollected}
 use Rattle.cell.specs.Sums.{no_sums}
 use Rattle.cell.specs.Collect.{list_by}
+use Rattle.site.specs.declared.moves.Unmoved.{Unmoved}
+use Rattle.site.specs.declared.moves.Unmoved.TheVariants.{Refused, Uncollected}
 use Rattle.site.specs.Rows.{part_at}
 
 -- a row with `out` numbers at place p taken out, and `more` zeros put in there
@@ -40,6 +42,15 @@ move_number w v empty card from to =
     ∷ (refusal_number BadRow, all_rows (form_ok card.delays) card.cells w from)
     ∷ (uncollected, cond empty (all_rows no_sums card.cells w from) true)
     ∷ [])
+
+-- the number of what a move answers: 0, or why it was not made
+abbrev pub unmoved_number : Unmoved → ℕ
+unmoved_number (Refused why) = refusal_number why
+unmoved_number Uncollected = uncollected
+
+abbrev pub moved_number : Result (Unit {0}) Unmoved → ℕ
+moved_number (Ok done) = 0
+moved_number (Err why) = unmoved_number why
 
 -- every row is cut anew; refused, the slice that is written stays as it came
 pub record MoveGives (w p out more : ℕ) (empty : Bool) (card : Card) (from to : List ℕ) (number : ℕ) (after : List ℕ) : Type 0 where

@@ -1,8 +1,7 @@
 -- The sheet: steps and nine sums, and what adding an answer gives. Definitions only.
-use Rattle.std.specs.Prelude.{ℕ, ◌+◌, ◌*◌, Bool, false, cond, ◌&&◌, List, [], ◌∷◌, leb, ltb, pos, nat_abs, ◌+ℤ◌}
+use Rattle.std.specs.Prelude.{ℕ, ◌+◌, ◌*◌, Bool, false, cond, ◌&&◌, List, [], ◌∷◌, leb, ltb, pos, nat_abs, ◌+ℤ◌, Ok, Err}
+use Rattle.cell.specs.Answers.{Answer}
 use Rattle.cell.specs.declared.Amounts.{Amounts}
-use Rattle.cell.specs.declared.Answer.{Answer}
-use Rattle.cell.specs.declared.Answer.TheVariants.{Accepted, Refused}
 use Rattle.cell.specs.Refusals.{not_addable}
 use Rattle.cell.specs.Water.{water, net}
 use Rattle.site.specs.declared.Sheet.{Sheet}
@@ -60,8 +59,8 @@ sums_within n s =
 
 -- an answer that can be added. Amounts and sums that cannot be negative are so by their type
 unfoldable pub addable : Sheet → Answer → Bool
-addable s (Refused why) = false
-addable s (Accepted a) = ltb s.steps step_limit && amounts_fit a && sums_within s.steps s
+addable s (Err why) = false
+addable s (Ok a) = ltb s.steps step_limit && amounts_fit a && sums_within s.steps s
 
 -- one step more, and each amount added to its sum
 unfoldable pub plus_of : Sheet → Amounts → Sheet
@@ -80,8 +79,8 @@ plus_of s a =
     }
 
 unfoldable pub sheet_by : Sheet → Answer → Sheet
-sheet_by s (Accepted a) = plus_of s a
-sheet_by s (Refused why) = s
+sheet_by s (Ok a) = plus_of s a
+sheet_by s (Err why) = s
 
 -- the new sheet and 0, or the sheet as it came and 11
 unfoldable pub added_of : Sheet → Answer → Added

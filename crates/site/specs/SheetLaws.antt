@@ -1,10 +1,9 @@
 -- Laws of the sheet: what an answer that can be added tells, and what a sheet holds after any list of answers. Assumes nothing.
-use Rattle.std.specs.Prelude.{◌≡◌, refl, Bool, true, false, List, [], ◌∷◌, ℕ, suc, ◌+◌, ◌*◌, ◌≤◌, ◌<◌, leb, ltb, ℤ, pos, nat_abs, ◌+ℤ◌}
+use Rattle.std.specs.Prelude.{◌≡◌, refl, Bool, true, false, List, [], ◌∷◌, ℕ, suc, ◌+◌, ◌*◌, ◌≤◌, ◌<◌, leb, ltb, ℤ, pos, nat_abs, ◌+ℤ◌, Ok, Err}
 use Rattle.std.proofs.Common.{sym, ap, ◌∙◌, arith, leb-true, ltb-true, le-leb, lt-ltb}
 use Rattle.std.proofs.Math.IntN.{+ℤ_assoc, +ℤ_idr}
+use Rattle.cell.specs.Answers.{Answer}
 use Rattle.cell.specs.declared.Amounts.{Amounts}
-use Rattle.cell.specs.declared.Answer.{Answer}
-use Rattle.cell.specs.declared.Answer.TheVariants.{Accepted, Refused}
 use Rattle.cell.specs.declared.Refusal.{Refusal}
 use Rattle.cell.specs.Bounds.{abs_add}
 use Rattle.cell.specs.Conj.{told}
@@ -114,18 +113,18 @@ pub record Takes (s : Sheet) (a : Amounts) : Type 0 where
   pub amounts : AmountsWithin a
   pub sums : SumsIn s.steps s
 
-pub takes_in : (s : Sheet) (a : Amounts) → addable s (Accepted a) ≡ true → Takes s a
+pub takes_in : (s : Sheet) (a : Amounts) → addable s (Ok a) ≡ true → Takes s a
 unfolding addable
 takes_in s a e =
     let p = told (ltb s.steps step_limit) (amounts_fit a ∷ sums_within s.steps s ∷ []) e in
     record { steps = ltb-true _ _ (p 0); amounts = amounts_within a (p 1); sums = sums_in s.steps s (p 2) }
 
-pub takes_ok : (s : Sheet) (a : Amounts) → Takes s a → addable s (Accepted a) ≡ true
+pub takes_ok : (s : Sheet) (a : Amounts) → Takes s a → addable s (Ok a) ≡ true
 unfolding addable
 takes_ok s a h = rw (lt-ltb _ _ h.steps, amounts_fit_lem a h.amounts, sums_within_lem s.steps s h.sums)
 
 -- ---- one answer
-pub added_taken : (s : Sheet) (a : Amounts) → Takes s a → added_of s (Accepted a) ≡ record { sheet = plus_of s a; number = 0 }
+pub added_taken : (s : Sheet) (a : Amounts) → Takes s a → added_of s (Ok a) ≡ record { sheet = plus_of s a; number = 0 }
 unfolding added_of sheet_by
 added_taken s a h = rw (takes_ok s a h)
 
@@ -137,24 +136,24 @@ added_refused s answer e = rw e
 -- how many of them are accepted, and the sum of an amount over those
 abbrev pub accepted : List Answer → ℕ
 accepted [] = 0
-accepted (Accepted a ∷ xs) = suc (accepted xs)
-accepted (Refused why ∷ xs) = accepted xs
+accepted (Ok a ∷ xs) = suc (accepted xs)
+accepted (Err why ∷ xs) = accepted xs
 
 abbrev pub sum_of : (Amounts → ℕ) → List Answer → ℕ
 sum_of f [] = 0
-sum_of f (Accepted a ∷ xs) = f a + sum_of f xs
-sum_of f (Refused why ∷ xs) = sum_of f xs
+sum_of f (Ok a ∷ xs) = f a + sum_of f xs
+sum_of f (Err why ∷ xs) = sum_of f xs
 
 abbrev pub net_of : List Answer → ℤ
 net_of [] = pos 0
-net_of (Accepted a ∷ xs) = a.recharge.0 +ℤ net_of xs
-net_of (Refused why ∷ xs) = net_of xs
+net_of (Ok a ∷ xs) = a.recharge.0 +ℤ net_of xs
+net_of (Err why ∷ xs) = net_of xs
 
 -- every accepted one has its amounts within the limit
 abbrev pub AllWithin : List Answer → Type 0
 AllWithin [] = Unit {0}
-AllWithin (Accepted a ∷ xs) = AmountsWithin a × AllWithin xs
-AllWithin (Refused why ∷ xs) = AllWithin xs
+AllWithin (Ok a ∷ xs) = AmountsWithin a × AllWithin xs
+AllWithin (Err why ∷ xs) = AllWithin xs
 
 -- a sheet t that is s with the accepted ones of xs added
 pub record Holds (s : Sheet) (xs : List Answer) (t : Sheet) : Type 0 where
@@ -187,7 +186,7 @@ plus_in s a h =
       recharge = omega (arith, abs_add s.recharge.0 a.recharge.0 (30000000000 * s.steps) 30000000000 k.recharge m.recharge);
     }
 
-one_more : (s : Sheet) (a : Amounts) (xs : List Answer) (t : Sheet) → Holds (plus_of s a) xs t → Holds s (Accepted a ∷ xs) t
+one_more : (s : Sheet) (a : Amounts) (xs : List Answer) (t : Sheet) → Holds (plus_of s a) xs t → Holds s (Ok a ∷ xs) t
 unfolding plus_of
 one_more s a xs t h =
     record {
@@ -203,7 +202,7 @@ one_more s a xs t h =
       recharge = h.recharge ∙ +ℤ_assoc s.recharge.0 a.recharge.0 (net_of xs);
     }
 
-skipped : (s : Sheet) (why : Refusal) (xs : List Answer) (t : Sheet) → Holds s xs t → Holds s (Refused why ∷ xs) t
+skipped : (s : Sheet) (why : Refusal) (xs : List Answer) (t : Sheet) → Holds s xs t → Holds s (Err why ∷ xs) t
 skipped s why xs t h =
     record {
       steps = h.steps;
@@ -232,19 +231,19 @@ steps_more s a n l = omega arith
 none_added : (s : Sheet) (answer : Answer) → addable s answer ≡ false → (added_of s answer).sheet ≡ s
 none_added s answer e = ap (λ (x : Added). x.sheet) (added_refused s answer e)
 
-never_added : (s : Sheet) (why : Refusal) → addable s (Refused why) ≡ false
+never_added : (s : Sheet) (why : Refusal) → addable s (Err why) ≡ false
 unfolding addable
 never_added s why = refl
 
 -- as long as the limit of steps is not met, the sums are those of the accepted answers and `steps` is their count
 pub sums_hold : (s : Sheet) (xs : List Answer) → SumsIn s.steps s → AllWithin xs → s.steps + accepted xs ≤ 100000000 → Holds s xs (after_all s xs)
 sums_hold s [] k w l = none_more s
-sums_hold s (Accepted a ∷ xs) k w l =
+sums_hold s (Ok a ∷ xs) k w l =
     let t : Takes s a = record { steps = omega arith; amounts = w.0; sums = k } in
     rw (added_taken s a t) (one_more s a xs (after_all (plus_of s a) xs) (sums_hold (plus_of s a) xs (counted s a t) w.1 (steps_more s a (accepted xs) l)))
-sums_hold s (Refused why ∷ xs) k w l =
+sums_hold s (Err why ∷ xs) k w l =
     let h = sums_hold s xs k w l in
-    rw (none_added s (Refused why) (never_added s why)) (skipped s why xs (after_all s xs) h)
+    rw (none_added s (Err why) (never_added s why)) (skipped s why xs (after_all s xs) h)
 
 -- ---- a sheet that adding has made, whatever was added: at most 100,000,000 steps, and its sums within them
 pub record SheetIn (s : Sheet) : Type 0 where
@@ -262,12 +261,12 @@ plus_in_steps : (s : Sheet) (a : Amounts) → Takes s a → SheetIn (plus_of s a
 plus_in_steps s a t = record { steps = let h = steps_more s a 0 (omega (arith, t.steps)) in omega arith; sums = counted s a t }
 
 pub sheet_added : (s : Sheet) (answer : Answer) → SheetIn s → SheetIn (added_of s answer).sheet
-sheet_added s (Refused why) h = rw (none_added s (Refused why) (never_added s why)) h
-sheet_added s (Accepted a) h = go (addable s (Accepted a)) refl
+sheet_added s (Err why) h = rw (none_added s (Err why) (never_added s why)) h
+sheet_added s (Ok a) h = go (addable s (Ok a)) refl
   where
-    go : (b : Bool) → addable s (Accepted a) ≡ b → SheetIn (added_of s (Accepted a)).sheet
+    go : (b : Bool) → addable s (Ok a) ≡ b → SheetIn (added_of s (Ok a)).sheet
     go true e = let t = takes_in s a e in rw (added_taken s a t) (plus_in_steps s a t)
-    go false e = rw (none_added s (Accepted a) e) h
+    go false e = rw (none_added s (Ok a) e) h
 
 -- from a sheet with no step on it
 pub from_none : (xs : List Answer) → AllWithin xs → accepted xs ≤ 100000000 → Holds no_steps xs (after_all no_steps xs)

@@ -1,7 +1,6 @@
 -- A step of the site, and clearing. Definitions only.
-use Rattle.std.specs.Prelude.{ℕ, ◌*◌, ◌≡◌, Bool, true, false, cond, not, ◌&&◌, List, [], ◌∷◌, ◌++◌, ltb, eqb, ℤ, length, replicate}
-use Rattle.cell.specs.declared.Answer.{Answer}
-use Rattle.cell.specs.declared.Answer.TheVariants.{Accepted, Refused}
+use Rattle.std.specs.Prelude.{ℕ, ◌*◌, ◌≡◌, Bool, true, false, cond, not, ◌&&◌, List, [], ◌∷◌, ◌++◌, ltb, eqb, ℤ, length, replicate, Result, Ok, Err}
+use Rattle.cell.specs.Answers.{Answer}
 use Rattle.cell.specs.declared.Card.{Card}
 use Rattle.cell.specs.declared.Entry.{Entry}
 use Rattle.cell.specs.declared.Refusal.{Refusal}
@@ -41,9 +40,9 @@ checks_of card soil rows e =
     ∷ (field_checks e ++ sum_checks card own row e)
 
 -- a check: refused with `why` where it fails, else what comes next
-unfoldable pub refuse : Bool → Refusal → Answer → Answer
+unfoldable pub refuse : {A : Type 0} → Bool → Refusal → Result A Refusal → Result A Refusal
 refuse true why next = next
-refuse false why next = Refused why
+refuse false why next = Err why
 
 -- checks 1, 2 and 3, then the step of the named cell's row with its soil numbers
 unfoldable pub site_answer : Card → List ℤ → List ℕ → Entry → Answer
@@ -55,8 +54,8 @@ site_answer card soil rows e =
 
 -- a slice by an answer: as it came where it was refused
 unfoldable pub rows_by : Answer → List ℕ → List ℕ → List ℕ
-rows_by (Accepted a) after rows = after
-rows_by (Refused why) after rows = rows
+rows_by (Ok a) after rows = after
+rows_by (Err why) after rows = rows
 
 -- the rows after a step: accepted, the named cell's row is the new one and no other number changes
 unfoldable pub site_rows : Card → List ℤ → List ℕ → Entry → List ℕ
@@ -77,10 +76,15 @@ pub record SiteGives (card : Card) (soil : List ℤ) (rows : List ℕ) (e : Entr
 unfoldable pub clear_number : Card → List ℕ → ℕ
 clear_number card rows = first_failing ((refusal_number BadCard, card_ok card) ∷ (refusal_number BadLengths, rows_fit card rows) ∷ [])
 
+-- nothing to say, or the refusal of the check that fails
+unfoldable pub clear_answer : Card → List ℕ → Result (Unit {0}) Refusal
+clear_answer card rows = refuse (card_ok card) BadCard (refuse (rows_fit card rows) BadLengths (Ok tt))
+
 -- sets all rows of the site to 0; refused, the slice is as it came
 unfoldable pub clear_rows : Card → List ℕ → List ℕ
 clear_rows card rows = cond (eqb (clear_number card rows) 0) (replicate (length rows) 0) rows
 
-pub record ClearGives (card : Card) (rows : List ℕ) (number : ℕ) (after : List ℕ) : Type 0 where
-  pub number_is : number ≡ clear_number card rows
+pub record ClearGives (card : Card) (rows : List ℕ) (answer : Result (Unit {0}) Refusal) (after : List ℕ) : Type 0 where
+  pub answer_is : answer ≡ clear_answer card rows
+  pub number_is : number_of answer ≡ clear_number card rows
   pub rows_are : after ≡ clear_rows card rows

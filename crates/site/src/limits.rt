@@ -1,68 +1,58 @@
 // Which answers a sheet takes, and what it is with them.
-ghost use Rattle.std.specs.Prelude.{◌≡◌, true, ◌^◌, ◌<◌, leb, nat_abs};
-ghost use Rattle.cell.specs.declared.Answer.TheVariants.{Accepted};
+ghost use Rattle.std.specs.Prelude.{◌≡◌, true, ◌<◌};
 ghost use Rattle.site.specs.Sheet.{amounts_fit, sums_within, addable, plus_of};
+ghost use Rattle.site.specs.Parts.{waters_within};
 
 use crate::Sheet;
 use cell::{Amounts, Net, Water};
 
-// A net amount is at most so much in size.
-fn no_larger(z: Net, most: u64) -> bool
-    requires { most < 2 ^ 62 }
-    ensures { result ≡ leb (nat_abs z.0) most }
-{
-    let high = most as i64;
-    let low = 0 - high;
-    (low <= z.0) & (z.0 <= high)
-}
+// The most that an amount may be in size.
+const AMOUNT_LIMIT: u64 = 30000000000;
 
+#[tactic(auto, unfolding(crate::specs::Sheet::amounts_fit))]
 fn amounts_fit(a: Amounts) -> bool
     ensures { result ≡ amounts_fit a }
 {
-    let most: u64 = 30000000000;
-    let recharge = no_larger(a.recharge, most);
-    (a.inflow.0 <= most)
-        & (a.runoff.0 <= most)
-        & (a.etvad.0 <= most)
-        & (a.etstor.0 <= most)
-        & (a.etsat.0 <= most)
-        & (a.drain.0 <= most)
-        & (a.release.0 <= most)
-        & (a.stored.0 <= most)
-        & recharge
-        & (a.left.0 <= most)
+    let most = AMOUNT_LIMIT;
+    a.waters_within(most) & (a.recharge.0.unsigned_abs() <= most)
 }
 
+#[tactic(auto, unfolding(crate::specs::Sheet::sums_within))]
 fn sums_within(s: Sheet) -> bool
     requires { s.steps < 100000000 }
     ensures { result ≡ sums_within s.steps s }
 {
-    let most = 30000000000 * s.steps;
-    let recharge = no_larger(s.recharge, most);
-    (s.inflow.0 <= most)
-        & (s.runoff.0 <= most)
-        & (s.etvad.0 <= most)
-        & (s.etstor.0 <= most)
-        & (s.etsat.0 <= most)
-        & (s.drain.0 <= most)
-        & (s.release.0 <= most)
-        & (s.stored.0 <= most)
-        & recharge
+    let most = AMOUNT_LIMIT * s.steps;
+    s.waters_within(most) & (s.recharge.0.unsigned_abs() <= most)
 }
 
+#[tactic(auto, unfolding(crate::specs::Sheet::addable))]
 pub fn takes(s: Sheet, a: Amounts) -> bool
-    ensures { result ≡ addable s (Accepted a) }
+    ensures { result ≡ addable s (Ok a) }
 {
-    if s.steps < 100000000 {
-        amounts_fit(a) & sums_within(s)
-    } else {
-        false
+    s.steps < 100000000 && amounts_fit(a) && sums_within(s)
+}
+
+impl Sheet {
+    // No sum of water is above so much; what the water tables gained, which has a sign, is not looked at.
+    pub fn waters_within(self, most: u64) -> bool
+        ensures { result ≡ waters_within most self }
+    {
+        (self.inflow.0 <= most)
+            & (self.runoff.0 <= most)
+            & (self.etvad.0 <= most)
+            & (self.etstor.0 <= most)
+            & (self.etsat.0 <= most)
+            & (self.drain.0 <= most)
+            & (self.release.0 <= most)
+            & (self.stored.0 <= most)
     }
 }
 
 // One step more, and each amount added to its sum.
+#[tactic(auto, using(crate::specs::SheetLaws::takes_in), unfolding(crate::specs::Sheet::plus_of))]
 pub fn plus(s: Sheet, a: Amounts) -> Sheet
-    requires { addable s (Accepted a) ≡ true }
+    requires { addable s (Ok a) ≡ true }
     ensures { result ≡ plus_of s a }
 {
     Sheet {

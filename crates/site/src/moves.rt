@@ -1,131 +1,142 @@
 // Rows in another form: numbers taken out at one place of every row, and zeros put in there.
-ghost use Rattle.std.specs.Prelude.{◌≡◌, true, ◌+◌, ◌-◌, ◌*◌, ◌≤◌, ◌<◌, length, get_or};
-ghost use Rattle.cell.specs.Ranges.{card_ok};
-ghost use Rattle.site.specs.Moves.{recut, width_after, recut_all, Cut, move_number, MoveGives};
-ghost use Rattle.site.specs.Parts.{Looks};
+ghost use Rattle.std.specs.Prelude.{◌≡◌, true, ◌+◌, ◌*◌, ◌≤◌, ◌<◌, length};
+ghost use Rattle.cell.specs.declared.Refusal.TheVariants.{BadRow};
+ghost use Rattle.cell.specs.Ranges.{card_ok, form_ok};
+ghost use Rattle.cell.specs.Sums.{no_sums};
+ghost use Rattle.site.specs.declared.moves.Unmoved.TheVariants.{Refused, Uncollected};
+ghost use Rattle.site.specs.Moves.{recut, width_after, recut_all, all_rows, unmoved_number};
+ghost use Rattle.site.specs.Parts.{passed, fitting};
 
-use cell::Card;
+use cell::{Card, Refusal};
 
-// The number at place j of a row that is cut anew.
-fn number_at(row: &[u32], p: usize, out: usize, more: usize, j: usize) -> u32
-    requires cut { Cut (length row.now) p out more }
-    requires inside { j < width_after (length row.now) out more }
-    ensures { result ≡ get_or (recut p out more row.now) j 0 }
-{
-    if j < p {
-        return row[j];
-    }
-    if j < p + more {
-        return 0;
-    }
-    row[j - more + out]
+// Why rows are not moved to another form.
+#[derive(Clone, Copy, Debug, PartialEq, Eq)]
+pub enum Unmoved {
+    Refused(Refusal),
+    Uncollected,
 }
 
-// One row, from its old form into its new one.
-fn recut_row(from: &[u32], to: &mut [u32], p: usize, out: usize, more: usize)
-    requires cut { Cut (length from.now) p out more }
-    requires room { length to.old ≡ width_after (length from.now) out more }
-    ensures { to.new ≡ recut p out more from.now }
-{
-    let mut j = 0;
-    while j < to.len() {
-        to[j] = number_at(from, p, out, more, j);
-        j += 1;
+impl From<Refusal> for Unmoved {
+    ghost from_gives = { λ why e. e ≡ Refused why };
+
+    fn from(why: Refusal) -> Unmoved {
+        Unmoved::Refused(why)
     }
 }
 
-// Every row of a slice, from its old form into its new one.
-fn recut_all(from: &[u32], to: &mut [u32], n: usize, w: usize, p: usize, out: usize, more: usize)
-    requires cut { Cut w p out more }
-    requires rooms { (n ≤ 256) × (length from.now ≡ w * n) × (length to.old ≡ width_after w out more * n) }
-    ensures { to.new ≡ recut_all n w p out more from.now }
-{
-    let v = w - out + more;
-    let mut i = 0;
-    while i < n {
-        let a = w * i;
-        let a_end = a + w;
-        let b = v * i;
-        let b_end = b + v;
-        recut_row(&from[a..a_end], &mut to[b..b_end], p, out, more);
-        i += 1;
+impl From<Unmoved> for u32 {
+    ghost from_gives = { λ why number. number ≡ unmoved_number why };
+
+    fn from(why: Unmoved) -> u32 {
+        match why {
+            Unmoved::Refused(why) => u32::from(why),
+            Unmoved::Uncollected => 16,
+        }
     }
 }
 
-// What a look at every row tells: whether all are in range, and whether no sum holds anything.
+// Where a row is cut anew: of its `width` numbers, `out` are taken out at `place`, and `more` zeros are put in there.
 #[derive(Clone, Copy)]
-pub struct Looked {
-    pub in_range: bool,
-    pub bare: bool,
+pub struct Recut {
+    pub width: usize,
+    pub place: usize,
+    pub out: usize,
+    pub more: usize,
+    ghost some: { 0 < width },
+    ghost inside: { place + out ≤ width },
+    ghost small: { width + more ≤ 1000 },
 }
 
-// Every row of w numbers, looked at in order.
-fn look(card: Card, rows: &[u32], w: usize) -> Looked
-    requires card_fits { card_ok card ≡ true }
-    requires rows_fit { (w ≤ 1000) × (length rows.now ≡ w * card.cells) }
-    ensures { Looks card rows.now w result }
-{
-    let n = card.cells as usize;
-    let mut in_range = true;
-    let mut bare = true;
-    let mut i = 0;
-    while i < n {
-        let a = w * i;
-        let end = a + w;
-        in_range = in_range & cell::form_ok(card, &rows[a..end]);
-        bare = bare & cell::is_empty(&rows[a..end]);
-        i += 1;
-    }
-    Looked {
-        in_range: in_range,
-        bare: bare,
-    }
-}
+// Over to the form with sums, which are put in after the slots.
+pub const OVER: Recut = Recut {
+    width: 32,
+    place: 32,
+    out: 0,
+    more: 4,
+};
 
-// The checks of a move: 1, 2 for either slice, 5 for every row, and where every sum must be 0, 16.
-fn check(card: Card, from: &[u32], w: usize, to: &[u32], v: usize, empty: bool) -> u32
-    requires { (w ≤ 1000) × (v ≤ 1000) }
-    ensures { result ≡ move_number w v empty card from.now to.now }
-{
-    if !cell::card_ok(card) {
-        return 1;
-    }
-    let cells = card.cells as usize;
-    if from.len() != w * cells {
-        return 2;
-    }
-    if to.len() != v * cells {
-        return 2;
-    }
-    let seen = look(card, from, w);
-    let out_of_range = !seen.in_range;
-    if out_of_range {
-        return 5;
-    }
-    if empty & !seen.bare {
-        return 16;
-    }
-    0
-}
+// And back.
+pub const BACK: Recut = Recut {
+    width: 36,
+    place: 32,
+    out: 4,
+    more: 0,
+};
 
-// All rows in their new form, once every check is passed.
-pub fn moved(
-    card: Card,
-    from: &[u32],
-    to: &mut [u32],
-    w: usize,
-    p: usize,
-    out: usize,
-    more: usize,
-    empty: bool,
-) -> u32
-    requires { Cut w p out more }
-    ensures { MoveGives w p out more empty card from.now to.old result to.new }
-{
-    let number = check(card, from, w, to, w - out + more, empty);
-    let passed = number == 0;
-    if passed {
-        recut_all(from, to, card.cells as usize, w, p, out, more);
+impl Recut {
+    // How many numbers a row then has.
+    fn width_after(self) -> usize
+        ensures { result ≡ width_after self.width self.out self.more }
+    {
+        self.width - self.out + self.more
     }
-    number
+
+    // One row, from its old form into its new one.
+    fn row(self, from: &[u32], to: &mut [u32])
+        requires old { length from.now ≡ self.width }
+        requires room { length to.old ≡ width_after self.width self.out self.more }
+        ensures { to.new ≡ recut self.place self.out self.more from.now }
+    {
+        let after = self.place + self.more;
+        to[..self.place].copy_from_slice(&from[..self.place]);
+        to[self.place..after].fill(0);
+        to[after..].copy_from_slice(&from[self.place + self.out..]);
+    }
+
+    // Every row of a slice, from its old form into its new one.
+    #[tactic(auto, using(crate::proofs::Turns::room))]
+    pub fn rows(self, cells: usize, from: &[u32], to: &mut [u32])
+        requires old { length from.now ≡ self.width * cells }
+        requires room { length to.old ≡ width_after self.width self.out self.more * cells }
+        ensures { to.new ≡ recut_all cells self.width self.place self.out self.more from.now }
+    {
+        let width = self.width_after();
+        for i in 0..cells {
+            let a = self.width * i;
+            let b = width * i;
+            self.row(&from[a..a + self.width], &mut to[b..b + width]);
+        }
+    }
+
+    // Checks 1 and, for either slice, 2.
+    pub fn fits(self, card: Card, from: &[u32], to: &[u32]) -> Result<(), Refusal>
+        ensures { result ≡ fitting card (length from.now) (self.width * card.cells) (length to.now) (width_after self.width self.out self.more * card.cells) }
+    {
+        if !cell::card_ok(card) {
+            return Err(Refusal::BadCard);
+        }
+        let cells = card.cells as usize;
+        if from.len() != self.width * cells || to.len() != self.width_after() * cells {
+            return Err(Refusal::BadLengths);
+        }
+        Ok(())
+    }
+
+    // Check 5 of every row.
+    pub fn in_range(self, card: Card, rows: &[u32]) -> Result<(), Refusal>
+        requires card_fits { card_ok card ≡ true }
+        requires rows_fit { length rows.now ≡ self.width * card.cells }
+        ensures { result ≡ passed (all_rows (form_ok card.delays) card.cells self.width rows.now) BadRow }
+    {
+        if rows
+            .chunks_exact(self.width)
+            .all(|row| cell::form_ok(card, row))
+        {
+            Ok(())
+        } else {
+            Err(Refusal::BadRow)
+        }
+    }
+
+    // Every sum of every row is 0.
+    pub fn collected(self, card: Card, rows: &[u32]) -> Result<(), Unmoved>
+        requires rows_fit { length rows.now ≡ self.width * card.cells }
+        ensures { result ≡ passed (all_rows no_sums card.cells self.width rows.now) Uncollected }
+    {
+        if rows.chunks_exact(self.width).all(|row| cell::is_empty(row)) {
+            Ok(())
+        } else {
+            Err(Unmoved::Uncollected)
+        }
+    }
 }

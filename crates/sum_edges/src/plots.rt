@@ -1,5 +1,6 @@
 // The plot of document 01's example at life 3 and next count 7, with water in its slots and in its sums.
 use cell::{Card, Entry, Notice, Reading};
+use std::array;
 
 // The most that a sum holds, and 1 more.
 pub const FULL: u64 = 1000000000000000000;
@@ -88,32 +89,24 @@ pub fn two() -> [u32; 72] {
 
 // A card with thirty delays, for so many plots.
 pub fn deep(cells: u32) -> Card {
-    let mut depths = [0u32; 30];
-    for i in 0..30 {
-        depths[i] = i as u32 + 1;
-    }
     Card {
         cells,
         delays: 30,
-        depths,
+        depths: array::from_fn(|i| i as u32 + 1),
         share: 20,
     }
 }
 
 // Rows of two plots in the old form, no two numbers alike: 1 to 32, then 33 to 64.
 pub fn old() -> [u32; 64] {
-    let mut rows = [0u32; 64];
-    for i in 0..64 {
-        rows[i] = i as u32 + 1;
-    }
-    rows
+    array::from_fn(|i| i as u32 + 1)
 }
 
 // The same rows, moved over to the new form.
 pub fn new() -> [u32; 72] {
     let from = old();
     let mut rows = [7u32; 72];
-    site::grow(deep(2), &from, &mut rows);
+    let _ = site::grow(deep(2), &from, &mut rows);
     rows
 }
 

@@ -1,6 +1,7 @@
 // What is printed of a case: what was asked, the number that came back, and the rows as they then stand.
 use crate::plots;
-use cell::{Answer, Card, Collected, Entry};
+use cell::{Answer, Card, Collected, Entry, Refusal};
+use site::Unmoved;
 use std::io;
 
 // A name and an amount of water.
@@ -10,7 +11,7 @@ pub fn amount(rt: &impl Print, name: &str, water: u64) -> io::Result<()> {
 
 // A name and a number.
 pub fn named(rt: &impl Print, name: &str, number: u32) -> io::Result<()> {
-    amount(rt, name, number as u64)
+    amount(rt, name, u64::from(number))
 }
 
 // A row's life, next count and first two slots.
@@ -66,10 +67,11 @@ pub fn step(rt: &impl Print, what: &str, rows: &mut [u32], e: Entry) -> io::Resu
 }
 
 // The number of a collection, and both sums.
-fn gathered(rt: &impl Print, got: Collected) -> io::Result<()> {
-    named(rt, ": ", got.number)?;
-    amount(rt, " runoff=", got.runoff.0)?;
-    amount(rt, " drainage=", got.drain.0)
+fn gathered(rt: &impl Print, got: Result<Collected, Refusal>) -> io::Result<()> {
+    let both = cell::sums_of(got);
+    named(rt, ": ", cell::number_of(got))?;
+    amount(rt, " runoff=", both.runoff.0)?;
+    amount(rt, " drainage=", both.drain.0)
 }
 
 // A plot's sums, collected.
@@ -82,7 +84,7 @@ pub fn collect(rt: &impl Print, card: Card, rows: &mut [u32], cell: u32) -> io::
 // All rows, cleared.
 pub fn clear(rt: &impl Print, what: &str, card: Card, rows: &mut [u32]) -> io::Result<()> {
     print!(rt; "{what}")?;
-    named(rt, ", clearing: ", site::clear(card, rows))?;
+    named(rt, ", clearing: ", cell::number_of(site::clear(card, rows)))?;
     site_rows(rt, rows)
 }
 
@@ -106,24 +108,22 @@ fn numbers(rt: &impl Print, slice: &[u32]) -> io::Result<()> {
 
 // How many numbers of a slice are 7.
 fn sevens(slice: &[u32]) -> usize {
-    let mut n: usize = 0;
-    for number in slice {
-        if *number == 7 {
-            n += 1;
-        }
-    }
-    n
+    slice.iter().filter(|number| **number == 7).count()
 }
 
 // What a move gave, and the slice into which it writes: its numbers, or how many are still the 7 that it was filled with.
-pub fn moved(rt: &impl Print, number: u32, slice: &[u32]) -> io::Result<()> {
-    named(rt, ": ", number)?;
-    if number == 0 {
-        numbers(rt, slice)?;
-    } else {
-        let still = sevens(slice);
-        let len = slice.len();
-        print!(rt; ", {still} of {len} still 7")?;
+pub fn moved(rt: &impl Print, answer: Result<(), Unmoved>, slice: &[u32]) -> io::Result<()> {
+    match answer {
+        Ok(()) => {
+            named(rt, ": ", 0)?;
+            numbers(rt, slice)?;
+        }
+        Err(why) => {
+            let still = sevens(slice);
+            let len = slice.len();
+            named(rt, ": ", u32::from(why))?;
+            print!(rt; ", {still} of {len} still 7")?;
+        }
     }
     println!(rt)
 }

@@ -10,9 +10,8 @@ use Rattle.form.specs.ManyLaws.{many_one}
 use Rattle.form.specs.Ends.{line_ends}
 use Rattle.form.specs.EndLaws.{ends_append, ends_form, ends_rows, ends_key}
 use Rattle.form.specs.Keys.{key_text}
-use Rattle.text.specs.declared.card.Counts.{Counts}
 use Rattle.text.specs.Lines.{card_form, depth_form, share_form, soil_form}
-use Rattle.text.specs.Cards.{counts_of, unsaid_share, Depths, depths_at, parse, tail_text, card_text, card_parts}
+use Rattle.text.specs.Cards.{Counts, counts_of, unsaid_share, Depths, depths_at, parse, tail_text, card_text, card_parts}
 use Rattle.text.proofs.CardTexts.{head_one, depths_one, card_one}
 
 -- line 1 and n soil lines

@@ -1,25 +1,14 @@
 -- Each card has one text, and what was written is read back. Assumes nothing.
-use Rattle.std.specs.Prelude.{◌≡◌, Bool, take, drop, get_or, set, replicate, ltb, eqb, ℤ}
-use Rattle.std.proofs.Math.Path.{refl, sym}
-use Rattle.std.proofs.Common.{ap, ◌∙◌, zero-add, length-drop, take-append-drop, take_at, drop_at, take_all, drop-cons, length-take-le, add-one}
-use mathlib.Core.List.{List, [], ◌∷◌, ◌++◌, map, map-append, append_assoc}
-use Rattle.std.proofs.Math.Bool.{true, false}
+use Rattle.std.specs.Prelude.{◌≡◌, Bool, take, drop, get_or, set, replicate, ltb, eqb, ℤ, refl, List, [], ◌∷◌, ◌++◌, map, true, false, ℕ, zero, suc, ◌+◌, ◌-◌, ◌*◌, ◌≤◌, ◌<◌, length, pos}
+use Rattle.std.proofs.Common.{ap, ◌∙◌, zero-add, length-drop, take-append-drop, take_at, drop_at, take_all, drop-cons, length-take-le, add-one, sym, append_assoc, arith, length-append, le-leb, lt-ltb, le-ltb, eq-eqb, ne_eqb, eqb-true}
+use mathlib.Core.List.{map-append}
 use Rattle.std.proofs.lemmas.Bool.{false≢true}
-use Prim.Native.Nat.{ℕ, zero, suc, ◌+◌, ◌-◌, ◌*◌, ◌≤◌, ◌<◌}
 use Rattle.std.proofs.Math.Nat.{sub-zero}
-use native.Mathlib.Omega.{arith}
-use Rattle.std.proofs.Math.ListN.{length, length-append}
 use Rattle.std.proofs.lemmas.List.{length-map, length-replicate}
 use Rattle.std.proofs.lemmas.List.Edits.{sets, sets-eq}
 use Rattle.std.proofs.Math.Seq.{length-sets}
-use Rattle.std.proofs.Math.IntN.{pos}
-use borrow.Author.Tests.{le-leb, lt-ltb, le-ltb, eq-eqb, ne_eqb, eqb-true}
-use Rattle.text.specs.declared.Written.{Written}
-use Rattle.text.specs.declared.card.Counts.{Counts}
-use Rattle.text.specs.declared.card.CardRead.{CardRead}
-use Rattle.text.specs.declared.card.Tail.{Tail}
-use Rattle.form.specs.declared.keys.Key.{Key}
-use Rattle.form.specs.Keys.{key_of, key_at, key_text}
+use Rattle.text.specs.Reads.{CardRead}
+use Rattle.form.specs.Keys.{Key, key_of, key_at, key_text}
 use Rattle.form.specs.KeyLaws.{key_one, key_back, key_default, key_elsewhere, key_then, text_none}
 use Rattle.cell.specs.declared.Card.{Card}
 use Rattle.cell.specs.declared.Refusal.TheVariants.{BadLengths}
@@ -34,8 +23,8 @@ use Rattle.form.specs.DecLaws.{stops}
 use Rattle.form.specs.ManyLaws.{many_one, many_back, ran, rows_front, rows_stops, rows_words, rows_small}
 use Rattle.form.specs.Words.{word_of}
 use Rattle.text.specs.Lines.{card_form, depth_form, share_form, soil_form}
-use Rattle.text.specs.Cards.{range_counts, counts_of, unsaid_share, tail_at, Depths, depths_at, bad_line, parse, card_result, soil_result, tail_text, card_text, card_parts, has_text, card_checks}
-use Rattle.text.specs.Written.{fits_in, Writes}
+use Rattle.text.specs.Cards.{Counts, Tail, range_counts, counts_of, unsaid_share, tail_at, Depths, depths_at, bad_line, parse, card_result, soil_result, tail_text, card_text, card_parts, has_text, card_checks}
+use Rattle.text.specs.Written.{Written, fits_in, Writes}
 use Rattle.text.proofs.WrittenLaws.{no_room, has_room, writes_none, writes_all, writes_text}
 use Rattle.form.specs.Put.{sets_step}
 
@@ -391,6 +380,29 @@ parts_text c soil h =
     ap (λ (x : List ℕ). form_text card_form (pos c.cells ∷ pos c.delays ∷ []) ++ (x ++ (tail_text c.share ++ rows_text c.cells soil_form soil)))
     (ap (rows_text m depth_form) e ∙ rows_front m depth_form (map pos a) (map pos b) l)
 
+-- the text of a card that some text gives, by its values: its length, and what writing its parts gives
+module _ (c : Card) (soil : List ℤ) (g : has_text c ≡ true) (l : length c.depths ≡ 30) (h ds : List ℤ) (eh : h ≡ pos c.cells ∷ pos c.delays ∷ []) (ed : ds ≡ map pos c.depths) where
+  as_parts_text : card_parts h c.delays ds c.share c.cells soil ≡ card_text c soil
+  as_parts_text = rw (eh, ed) (parts_text c soil (omega (arith, l, text_counts c g)))
+
+  pub text_length : length (card_text c soil)
+      ≡ length (form_text card_form h) + (length (rows_text c.delays depth_form ds) + (length (tail_text c.share) + length (rows_text c.cells soil_form soil)))
+  text_length = ap length (sym as_parts_text) ∙ parts_length h c.delays ds c.share c.cells soil
+
+  pub text_put : (b0 b1 b2 b3 b4 : List ℕ) (a i j : ℕ)
+      → b1 ≡ sets b0 0 (form_text card_form h) → a ≡ 0 + length (form_text card_form h)
+      → b2 ≡ sets b1 a (rows_text c.delays depth_form ds) → i ≡ a + length (rows_text c.delays depth_form ds)
+      → b3 ≡ sets b2 i (tail_text c.share) → j ≡ i + length (tail_text c.share)
+      → b4 ≡ sets b3 j (rows_text c.cells soil_form soil)
+      → b4 ≡ sets b0 0 (card_text c soil)
+  text_put b0 b1 b2 b3 b4 a i j e1 ea e2 ei e3 ej e4 =
+      parts_put h c.delays ds c.share c.cells soil b0 b1 b2 b3 b4 a i j e1 ea e2 ei e3 ej e4 ∙ ap (sets b0 0) as_parts_text
+
+-- what the functions that write cite
+pub ruleset writing_tails = (tail_length, tail_put)
+
+pub ruleset writing_cards = (text_counts, text_length)
+
 module _ (c : Card) (soil : List ℤ) (b : List ℕ) where
   abbrev Gives : Written → List ℕ → Type 0
   Gives = Writes (card_checks c soil b) (card_text c soil) b
@@ -409,17 +421,12 @@ module _ (c : Card) (soil : List ℤ) (b : List ℕ) where
       pub wrote_odd : many_fit c.cells soil_form soil ≡ false → Refuses malformed
       wrote_odd f = writes_none _ _ _ malformed (omega arith) (rw (g, eq-eqb _ _ h, f))
 
-      module _ (f : many_fit c.cells soil_form soil ≡ true) (d : c.delays ≤ length c.depths) (n : ℕ)
-          (e : n ≡ length (card_parts (pos c.cells ∷ pos c.delays ∷ []) c.delays (map pos c.depths) c.share c.cells soil)) where
-        e' : n ≡ length (card_text c soil)
-        e' = e ∙ ap length (parts_text c soil d)
-
+      module _ (f : many_fit c.cells soil_form soil ≡ true) (n : ℕ) (e : n ≡ length (card_text c soil)) where
         pub wrote_short : length b < n → Refuses malformed
-        wrote_short k = writes_none _ _ _ malformed (omega arith) (rw (g, eq-eqb _ _ h, f, no_room (card_text c soil) b n e' k))
+        wrote_short k = writes_none _ _ _ malformed (omega arith) (rw (g, eq-eqb _ _ h, f, no_room (card_text c soil) b n e k))
 
-        pub wrote_all : (l : List ℕ) → n ≤ length b → l ≡ sets b 0 (card_parts (pos c.cells ∷ pos c.delays ∷ []) c.delays (map pos c.depths) c.share c.cells soil)
-            → Gives (record { number = 0; len = n }) l
-        wrote_all l k p = writes_all _ _ _ l n (rw (g, eq-eqb _ _ h, f, has_room (card_text c soil) b n e' k)) e' k (p ∙ ap (sets b 0) (parts_text c soil d))
+        pub wrote_all : (l : List ℕ) → n ≤ length b → l ≡ sets b 0 (card_text c soil) → Gives (record { number = 0; len = n }) l
+        wrote_all l k p = writes_all _ _ _ l n (rw (g, eq-eqb _ _ h, f, has_room (card_text c soil) b n e k)) e k p
 
 -- ---- what `card::write` accepts is read back
 zeros_zero : (n : ℕ) → none_of (map word_of (replicate n (pos 0))) ≡ true

@@ -1,13 +1,12 @@
 -- How long the lines are, a reading's and a void's at the least, an answer's and the sheet's at the most; and that each is one line. Assumes nothing.
-use Rattle.std.specs.Prelude.{◌≡◌, refl, Bool, true, false, cond, List, [], ◌∷◌, ℕ, ◌*◌, ◌≤◌, ◌<◌, ◌^◌, eqb, ℤ, pos, length, get_or, take}
+use Rattle.std.specs.Prelude.{◌≡◌, refl, Bool, true, false, cond, List, [], ◌∷◌, ℕ, ◌*◌, ◌≤◌, ◌<◌, ◌^◌, eqb, ℤ, pos, length, get_or, take, Ok, Err}
 use Rattle.std.proofs.Common.{sym, ap, ◌∙◌, arith, eqb-true, length-take-le}
 use Rattle.form.specs.Form.{form_at, form_text}
 use Rattle.form.specs.FormLaws.{all_bytes, form_one}
 use Rattle.form.specs.LengthLaws.{text_least, text_most, text_digits}
 use Rattle.form.specs.Ends.{line_ends}
 use Rattle.form.specs.EndLaws.{ends_form}
-use Rattle.cell.specs.declared.Answer.{Answer}
-use Rattle.cell.specs.declared.Answer.TheVariants.{Accepted, Refused}
+use Rattle.cell.specs.Answers.{Answer}
 use Rattle.cell.specs.declared.Card.{Card}
 use Rattle.cell.specs.declared.Entry.{Entry}
 use Rattle.cell.specs.declared.Notice.{Notice}
@@ -24,7 +23,7 @@ use Rattle.site.proofs.SheetSteps.{site_within}
 use Rattle.form.specs.Words.{word_lt}
 use Rattle.text.specs.Lines.{reading_form, void_form, answer_form, sheet_form}
 use Rattle.text.specs.Readings.{read_reading, vals_of, text_of}
-use Rattle.text.specs.declared.entry.EntryRead.{EntryRead}
+use Rattle.text.specs.Reads.{EntryRead}
 use Rattle.text.specs.Voids.{void_vals, void_text, read_void, voided, as_read, read_entry, entry_text}
 use Rattle.text.proofs.VoidLaws.{stands, one_text as void-text}
 use Rattle.text.proofs.ReadingLaws.{one_text}
@@ -101,11 +100,11 @@ unfolding answer_text line_text
 void_most cell card soil rows n c = go (site_answer card soil rows (Entry.Void n)) refl
   where
     go : (x : Answer) → site_answer card soil rows (Entry.Void n) ≡ x → length (form_text answer_form (answer_vals cell (number_of x) (amounts_of x))) ≤ 135
-    go (Refused why) e =
+    go (Err why) e =
         let b = text_digits answer_form (9 ∷ 1 ∷ []) (answer_vals cell (refusal_number why) nothing) refl
-        (refl, omega arith, (refl, omega (arith, number_most (Refused why)), (refl, omega arith, (refl, omega arith, (refl, omega arith, (refl, omega arith, (refl, omega arith, (refl, omega arith, (refl, omega arith, (refl, omega arith, (refl, omega arith, (refl, omega arith, tt)))))))))))) in
+        (refl, omega arith, (refl, omega (arith, number_most (Err why)), (refl, omega arith, (refl, omega arith, (refl, omega arith, (refl, omega arith, (refl, omega arith, (refl, omega arith, (refl, omega arith, (refl, omega arith, (refl, omega arith, (refl, omega arith, tt)))))))))))) in
         omega (arith, b)
-    go (Accepted a) e =
+    go (Ok a) e =
         let r = row_answer card soil rows (Entry.Void n) a e in
         let o = void_amounts card (part_at soil_width n.cell soil) (part_at (row_width card) n.cell rows) n a r in
         let w = amounts_in card (part_at soil_width n.cell soil) (part_at (row_width card) n.cell rows) (Entry.Void n) a r in

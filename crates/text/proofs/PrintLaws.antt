@@ -4,9 +4,8 @@ use Rattle.std.proofs.Common.{ap, arith, le-leb}
 use Rattle.cell.specs.declared.Amounts.{Amounts}
 use Rattle.site.specs.declared.Sheet.{Sheet}
 use Rattle.site.specs.SheetLaws.{AmountsWithin, SheetIn}
-use Rattle.text.specs.declared.Written.{Written}
 use Rattle.text.specs.Printed.{most, amounts_printable, sheet_printable, line_checks}
-use Rattle.text.specs.Written.{fits_in, Writes}
+use Rattle.text.specs.Written.{Written, fits_in, Writes}
 use Rattle.text.proofs.WrittenLaws.{writes_text}
 
 fits : (n m : ℕ) → n ≤ m → m ≤ most → leb n most ≡ true

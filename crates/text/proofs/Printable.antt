@@ -1,12 +1,5 @@
 -- The numbers of a line that can be printed are below 2 ^ 63, place by place. Assumes nothing.
-use mathlib.Core.Path.{◌≡◌}
-use mathlib.Core.Bool.{Bool, true}
-use mathlib.Core.List.{List, [], ◌∷◌}
-use Prim.Native.Nat.{ℕ, zero, suc, ◌<◌, ◌^◌}
-use native.Mathlib.Omega.{arith}
-use borrow.Author.Tests.{leb-true}
-use lib.Dec.{leb}
-use lib.ListN.{get_or}
+use Rattle.std.proofs.Common.{◌≡◌, Bool, true, List, [], ◌∷◌, ℕ, zero, suc, ◌<◌, ◌^◌, leb, get_or, arith, leb-true}
 use Rattle.cell.specs.declared.Amounts.{Amounts}
 use Rattle.cell.specs.Conj.{told}
 use Rattle.site.specs.declared.Sheet.{Sheet}

@@ -1,45 +1,54 @@
 -- Laws of readings as text: what was written is read back, and each reading has one text. Assumes nothing.
-use Rattle.std.specs.Prelude.{◌≡◌, refl, List, [], ◌++◌, map, Bool, true, false, ℕ, ◌+◌, ◌≤◌, ◌<◌, length, take, drop, get_or, T, ltb, ℤ, pos}
-use Rattle.std.proofs.Common.{sym, ap, ◌∙◌, arith, take_all, lt-ltb}
+use Rattle.form.specs.Put.{sets_all}
+use Rattle.cell.specs.Refusals.{malformed}
 use Rattle.std.proofs.lemmas.List.Edits.{sets}
-use Rattle.text.specs.declared.Written.{Written}
+use Rattle.std.specs.Prelude.{◌≡◌, refl, List, [], ◌++◌, map, Bool, true, false, ℕ, ◌+◌, ◌≤◌, ◌<◌, length, take, drop, get_or, T, ltb, ℤ, pos, Result, Ok, Err}
+use Rattle.std.proofs.Common.{sym, ap, ◌∙◌, arith, take_all, lt-ltb, Some, None}
 use Rattle.std.specs.Float.{binary32}
 use Rattle.std.specs.Float.Ieee.{fits as floatFits}
 use Rattle.head.specs.Pattern.{pattern_of}
 use Rattle.head.specs.PatternLaws.{there_and_back, pattern_lt, same_again}
-use Rattle.form.specs.declared.line.Taken.{Taken}
 use Rattle.cell.specs.declared.Reading.{Reading}
-use Rattle.cell.specs.Refusals.{malformed}
-use Rattle.text.specs.declared.reading.ReadingRead.{ReadingRead}
-use Rattle.form.specs.Put.{sets_all}
-use Rattle.form.specs.Form.{form_at, form_text, taken_of, fits}
+use Rattle.text.specs.declared.Read.{Read}
+use Rattle.text.specs.declared.Unread.{Unread}
+use Rattle.text.specs.Reads.{values_read, ReadingRead}
+use Rattle.text.proofs.ReadLaws.{read_took, read_stopped}
+use Rattle.form.specs.Form.{form_at, form_text, fits, taken_of}
 use Rattle.form.specs.FormLaws.{FormRead, form_one, form_back, read, cells_take, ok_words, unword, small_oks, and_i}
-use Rattle.form.specs.RunLaws.{form_length}
+use Rattle.form.specs.RunLaws.{form_length, took, not_taken}
 use Rattle.text.specs.Lines.{reading_form}
 use Rattle.form.specs.Words.{word_of, word_lt}
-use Rattle.text.specs.Readings.{vals_of, fields_of, text_of, read_reading, carried, read_again, Same, reading_checks}
-use Rattle.text.specs.Written.{Writes}
+use Rattle.text.specs.Readings.{vals_of, fields_of, text_of, read_reading, reading_given, carried, read_again, Same, reading_checks}
+use Rattle.text.specs.Written.{Written, Writes}
 use Rattle.text.proofs.WrittenLaws.{line_again}
 
 -- a line that stands at the start of s
 one_line_lem : (s : List ℕ) → (form_at reading_form s 0).ok ≡ true → FormRead reading_form s 0 (form_at reading_form s 0)
 one_line_lem s e = form_one reading_form s 0 refl (omega arith) e
 
-pub read_good : (s : List ℕ) (t : Taken) (z v : List ℤ) (r : Reading) → length z ≡ 10 → t ≡ taken_of (form_at reading_form s 0)
-    → v ≡ sets z 0 (form_at reading_form s 0).vals → t.ok ≡ true → r ≡ fields_of v
-    → ◌≡◌ {A = ReadingRead} (record { number = 0; taken = t.next; line = 0; reading = r }) (read_reading s)
+-- what reading the line has given comes to the reading
+pub reading_took : (s : List ℕ) (x : Read (List ℤ)) (r : Reading) → Ok x ≡ values_read (form_at reading_form s 0) → r ≡ fields_of x.value → reading_given (Ok (record { taken = x.taken; value = r })) ≡ read_reading s
 unfolding read_reading
-read_good s t z v r l e f o g =
-    let k : (form_at reading_form s 0).ok ≡ true = sym (ap (λ (x : Taken). x.ok) e) ∙ o in
-    let n : length (form_at reading_form s 0).vals ≡ 10 = form_length reading_form s 0 k in
-    rw (k, e, g, f, sets_all z (form_at reading_form s 0).vals (n ∙ sym l))
+reading_took s x r p e = let q = read_took (form_at reading_form s 0) x p in rw (q.0, e, q.1, q.2)
 
-pub refused : (s : List ℕ) (t : Taken) → t ≡ taken_of (form_at reading_form s 0) → t.ok ≡ false
+pub reading_stops : (s : List ℕ) (e : Unread) → ◌≡◌ {A = Result (Read (List ℤ)) Unread} (Err e) (values_read (form_at reading_form s 0)) → reading_given (Err e) ≡ read_reading s
+unfolding read_reading
+reading_stops s e p = let q = read_stopped (form_at reading_form s 0) e p in rw (q.0, q.1)
+
+-- a line that was read, and one that was not
+pub read_good : (s : List ℕ) (t : ℕ) (z v : List ℤ) (r : Reading) → length z ≡ 10 → taken_of (form_at reading_form s 0) ≡ Some t
+    → v ≡ sets z 0 (form_at reading_form s 0).vals → r ≡ fields_of v
+    → ◌≡◌ {A = ReadingRead} (record { number = 0; taken = t; line = 0; reading = r }) (read_reading s)
+unfolding read_reading
+read_good s t z v r l e f g =
+    let k = took (form_at reading_form s 0) t e in
+    let m : length (form_at reading_form s 0).vals ≡ 10 = form_length reading_form s 0 k.0 in
+    rw (k.0, ← k.1, g, f, sets_all z (form_at reading_form s 0).vals (m ∙ sym l))
+
+pub refused : (s : List ℕ) → taken_of (form_at reading_form s 0) ≡ None
     → ◌≡◌ {A = ReadingRead} (record { number = malformed; taken = 0; line = 1; reading = fields_of [] }) (read_reading s)
 unfolding read_reading
-refused s t e o =
-    let k : (form_at reading_form s 0).ok ≡ false = sym (ap (λ (x : Taken). x.ok) e) ∙ o in
-    rw k
+refused s e = rw (not_taken (form_at reading_form s 0) e)
 
 -- ---- the two laws
 

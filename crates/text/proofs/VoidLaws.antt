@@ -1,45 +1,54 @@
 -- [3] Laws of voids as text: what was written is read back, each void has one text, and no text is both a void and a reading. Assumes nothing.
-use Rattle.std.specs.Prelude.{◌≡◌, refl, List, [], ◌++◌, map, Bool, true, false, ℕ, ◌+◌, ◌≤◌, ◌<◌, length, take, drop, ℤ, eqb}
-use Rattle.std.proofs.Common.{sym, ap, ◌∙◌, arith, take_all, eq-eqb, ne_eqb}
+use Rattle.form.specs.Put.{sets_all}
 use Rattle.std.proofs.lemmas.List.Edits.{sets}
+use Rattle.std.specs.Prelude.{◌≡◌, refl, List, [], ◌++◌, map, Bool, true, false, ℕ, ◌+◌, ◌≤◌, ◌<◌, length, take, drop, ℤ, eqb, Result, Ok, Err}
+use Rattle.std.proofs.Common.{sym, ap, ◌∙◌, arith, take_all, eq-eqb, ne_eqb, Some, None}
 use Rattle.std.proofs.lemmas.Bool.{eqb-false}
-use Rattle.form.specs.declared.line.Taken.{Taken}
 use Rattle.cell.specs.declared.Entry.{Entry}
 use Rattle.cell.specs.declared.Notice.{Notice}
 use Rattle.cell.specs.declared.Reading.{Reading}
 use Rattle.cell.specs.Refusals.{malformed}
-use Rattle.form.specs.Put.{sets_all}
-use Rattle.form.specs.Form.{form_at, form_text, taken_of, fits}
+use Rattle.form.specs.Form.{form_at, form_text, fits, taken_of}
 use Rattle.form.specs.FormLaws.{FormRead, first_byte, form_one, form_back, read, cells_take, ok_words, unword, small_oks, and_i}
-use Rattle.form.specs.RunLaws.{form_length}
-use Rattle.text.specs.declared.reading.ReadingRead.{ReadingRead}
-use Rattle.text.specs.declared.void.VoidRead.{VoidRead}
-use Rattle.text.specs.declared.Written.{Written}
+use Rattle.form.specs.RunLaws.{form_length, not_taken, took}
+use Rattle.text.specs.declared.Read.{Read}
+use Rattle.text.specs.declared.Unread.{Unread}
+use Rattle.text.specs.declared.Unread.TheVariants.{Malformed, ShortSoil}
+use Rattle.text.specs.Reads.{ReadingRead, VoidRead, unread_number, unread_line, values_read}
+use Rattle.text.proofs.ReadLaws.{read_took, read_stopped, no_zero}
 use Rattle.text.specs.Lines.{reading_form, void_form}
-use Rattle.text.specs.Readings.{read_reading, text_of, read_again}
+use Rattle.text.specs.Readings.{read_reading, reading_given, text_of, read_again}
 use Rattle.text.proofs.ReadingLaws.{small, read_back, Words as ReadingWords}
-use Rattle.text.specs.Voids.{void_vals, notice_at, void_text, read_void, void_checks, voided, as_read, read_entry}
-use Rattle.text.specs.Written.{Writes}
+use Rattle.text.specs.Voids.{void_vals, notice_at, void_text, read_void, void_given, void_checks, voided, as_read, read_entry, entry_given}
+use Rattle.text.specs.Written.{Written, Writes}
 use Rattle.text.proofs.WrittenLaws.{line_again}
 
 one_line_lem : (s : List ℕ) → (form_at void_form s 0).ok ≡ true → FormRead void_form s 0 (form_at void_form s 0)
 one_line_lem s e = form_one void_form s 0 refl (omega arith) e
 
-pub read_good : (s : List ℕ) (t : Taken) (z v : List ℤ) (n : Notice) → length z ≡ 3 → t ≡ taken_of (form_at void_form s 0)
-    → v ≡ sets z 0 (form_at void_form s 0).vals → t.ok ≡ true → n ≡ notice_at v
-    → ◌≡◌ {A = VoidRead} (record { number = 0; taken = t.next; line = 0; notice = n }) (read_void s)
+-- what reading the line has given comes to the void
+pub void_took : (s : List ℕ) (x : Read (List ℤ)) (n : Notice) → Ok x ≡ values_read (form_at void_form s 0) → n ≡ notice_at x.value → void_given (Ok (record { taken = x.taken; value = n })) ≡ read_void s
 unfolding read_void
-read_good s t z v n l e f o g =
-    let k : (form_at void_form s 0).ok ≡ true = sym (ap (λ (x : Taken). x.ok) e) ∙ o in
-    let m : length (form_at void_form s 0).vals ≡ 3 = form_length void_form s 0 k in
-    rw (k, e, g, f, sets_all z (form_at void_form s 0).vals (m ∙ sym l))
+void_took s x n p e = let q = read_took (form_at void_form s 0) x p in rw (q.0, e, q.1, q.2)
 
-pub refused : (s : List ℕ) (t : Taken) → t ≡ taken_of (form_at void_form s 0) → t.ok ≡ false
+pub void_stops : (s : List ℕ) (e : Unread) → ◌≡◌ {A = Result (Read (List ℤ)) Unread} (Err e) (values_read (form_at void_form s 0)) → void_given (Err e) ≡ read_void s
+unfolding read_void
+void_stops s e p = let q = read_stopped (form_at void_form s 0) e p in rw (q.0, q.1)
+
+-- a line that was read, and one that was not
+pub read_good : (s : List ℕ) (t : ℕ) (z v : List ℤ) (n : Notice) → length z ≡ 3 → taken_of (form_at void_form s 0) ≡ Some t
+    → v ≡ sets z 0 (form_at void_form s 0).vals → n ≡ notice_at v
+    → ◌≡◌ {A = VoidRead} (record { number = 0; taken = t; line = 0; notice = n }) (read_void s)
+unfolding read_void
+read_good s t z v n l e f g =
+    let k = took (form_at void_form s 0) t e in
+    let m : length (form_at void_form s 0).vals ≡ 3 = form_length void_form s 0 k.0 in
+    rw (k.0, ← k.1, g, f, sets_all z (form_at void_form s 0).vals (m ∙ sym l))
+
+pub refused : (s : List ℕ) → taken_of (form_at void_form s 0) ≡ None
     → ◌≡◌ {A = VoidRead} (record { number = malformed; taken = 0; line = 1; notice = notice_at [] }) (read_void s)
 unfolding read_void
-refused s t e o =
-    let k : (form_at void_form s 0).ok ≡ false = sym (ap (λ (x : Taken). x.ok) e) ∙ o in
-    rw k
+refused s e = rw (not_taken (form_at void_form s 0) e)
 
 -- ---- there and back
 -- what owning a notice tells: each field fits 32 bits
@@ -106,6 +115,45 @@ unfolding read_entry
 entry_void s v e z =
     let k : (read_void s).number ≡ 0 = sym (ap (λ (x : VoidRead). x.number) e) ∙ z in
     rw (eq-eqb _ _ k, e)
+
+-- a line that neither reader takes: both stop at line 1
+line_one : (e : Unread) → unread_number e ≡ malformed → unread_line e ≡ 1 → e ≡ Malformed 1
+line_one (Malformed n) p q = ap (λ (i : ℕ). Malformed i) q
+line_one ShortSoil p q = absurd (omega (arith, p))
+
+void_line : (s : List ℕ) (e : Unread) → void_given (Err e) ≡ read_void s → e ≡ Malformed 1
+unfolding read_void
+void_line s e v = go (form_at void_form s 0).ok refl
+  where
+    number : unread_number e ≡ (read_void s).number
+    number = ap (λ (x : VoidRead). x.number) v
+
+    line : unread_line e ≡ (read_void s).line
+    line = ap (λ (x : VoidRead). x.line) v
+
+    go : (b : Bool) → (form_at void_form s 0).ok ≡ b → e ≡ Malformed 1
+    go true k = absurd (no_zero e (rw k at number))
+    go false k = line_one e (rw k at number) (rw k at line)
+
+reading_line : (s : List ℕ) (e : Unread) → reading_given (Err e) ≡ read_reading s → e ≡ Malformed 1
+unfolding read_reading
+reading_line s e v = go (form_at reading_form s 0).ok refl
+  where
+    number : unread_number e ≡ (read_reading s).number
+    number = ap (λ (x : ReadingRead). x.number) v
+
+    line : unread_line e ≡ (read_reading s).line
+    line = ap (λ (x : ReadingRead). x.line) v
+
+    go : (b : Bool) → (form_at reading_form s 0).ok ≡ b → e ≡ Malformed 1
+    go true k = absurd (no_zero e (rw k at number))
+    go false k = line_one e (rw k at number) (rw k at line)
+
+pub entry_none : (s : List ℕ) (e d : Unread) → void_given (Err e) ≡ read_void s → reading_given (Err d) ≡ read_reading s → entry_given (Err e) ≡ read_entry s
+unfolding read_entry
+entry_none s e d v x =
+    let none : ¬ ((read_void s).number ≡ 0) = λ z. no_zero e (ap (λ (x : VoidRead). x.number) v ∙ z) in
+    rw (ne_eqb _ _ none, ← x, void_line s e v, reading_line s d x)
 
 pub entry_other : (s : List ℕ) (v : VoidRead) (x : ReadingRead) → v ≡ read_void s → ¬ (v.number ≡ 0) → x ≡ read_reading s → as_read x ≡ read_entry s
 unfolding read_entry

@@ -1,11 +1,13 @@
 -- What a writer gives on refusal, and where its checks are passed. Assumes nothing.
-use Rattle.std.specs.Prelude.{◌≡◌, Bool, true, false, List, [], ◌∷◌, ◌++◌, ℕ, ◌+◌, ◌≤◌, ◌<◌, eqb, length, drop}
-use Rattle.std.proofs.Common.{sym, ◌∙◌, arith, le-leb, ne_eqb}
+use Rattle.std.specs.Prelude.{◌≡◌, refl, Bool, true, false, List, [], ◌∷◌, ◌++◌, ℕ, ◌+◌, ◌≤◌, ◌<◌, eqb, length, drop, Result, Ok, Err}
+use Rattle.std.specs.Result.{result_unwrap_or}
+use Rattle.std.proofs.Common.{sym, ap, ◌∙◌, arith, le-leb, ne_eqb}
 use Rattle.std.proofs.lemmas.Bool.{lt-leb}
 use Rattle.std.proofs.lemmas.List.Edits.{sets, sets-eq}
 use Rattle.cell.specs.Refusals.{malformed, first_failing}
-use Rattle.text.specs.declared.Written.{Written}
-use Rattle.text.specs.Written.{fits_in, buffer, Writes}
+use Rattle.text.specs.declared.Unwritten.{Unwritten}
+use Rattle.text.specs.declared.Unwritten.TheVariants.{Unfit, SoilLength}
+use Rattle.text.specs.Written.{Written, written_given, fits_in, buffer, Writes}
 
 -- the last check, of a text of n bytes
 pub no_room : (t b : List ℕ) (n : ℕ) → n ≡ length t → length b < n → fits_in t b ≡ false
@@ -40,3 +42,20 @@ pub line_again : (u t b : List ℕ) → u ≡ t → length u ≤ length b → (w
 line_again u t b e l w after g =
     let k : fits_in t b ≡ true = rw (← e) (le-leb _ _ l) in
     rw e (writes_text ((malformed, fits_in t b) ∷ []) t b w after g (rw k))
+
+-- the length, 0 where nothing was written
+pub written_len : (r : Result ℕ Unwritten) → result_unwrap_or r 0 ≡ (written_given r).len
+written_len (Ok n) = refl
+written_len (Err e) = refl
+
+-- two results that come to the same number and length are the same
+pub written_settled : (r r' : Result ℕ Unwritten) → written_given r ≡ written_given r' → r ≡ r'
+written_settled (Ok n) (Ok m) e = ap (λ (w : Written). Ok w.len) e
+written_settled (Ok n) (Err Unfit) e = absurd (omega (arith, ap (λ (w : Written). w.number) e))
+written_settled (Ok n) (Err SoilLength) e = absurd (omega (arith, ap (λ (w : Written). w.number) e))
+written_settled (Err Unfit) (Ok n) e = absurd (omega (arith, ap (λ (w : Written). w.number) e))
+written_settled (Err SoilLength) (Ok n) e = absurd (omega (arith, ap (λ (w : Written). w.number) e))
+written_settled (Err Unfit) (Err Unfit) e = refl
+written_settled (Err Unfit) (Err SoilLength) e = absurd (omega (arith, ap (λ (w : Written). w.number) e))
+written_settled (Err SoilLength) (Err Unfit) e = absurd (omega (arith, ap (λ (w : Written). w.number) e))
+written_settled (Err SoilLength) (Err SoilLength) e = refl

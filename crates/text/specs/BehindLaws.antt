@@ -1,25 +1,18 @@
 -- Each reader looks at nothing after its card or its one line. Assumes nothing.
-use Rattle.std.specs.Prelude.{◌≡◌, Bool, cond, List, pos, get_or}
-use Rattle.std.proofs.Math.Path.{refl, ap}
-use Rattle.std.proofs.Math.Bool.{true, false}
+use Rattle.std.specs.Prelude.{◌≡◌, Bool, cond, List, pos, get_or, refl, true, false, ℕ, zero, suc, ◌+◌, ◌*◌, ◌≤◌, ◌<◌, eqb}
 use Rattle.std.proofs.lemmas.Bool.{false≢true, eqb-false}
-use Prim.Native.Nat.{ℕ, zero, suc, ◌+◌, ◌*◌, ◌≤◌, ◌<◌}
-use native.Mathlib.Omega.{arith}
-use Rattle.std.proofs.Math.Dec.{eqb}
-use Rattle.std.proofs.Common.{eqb-true, ne_eqb}
+use Rattle.std.proofs.Common.{eqb-true, ne_eqb, ap, arith}
 use Rattle.cell.specs.Ranges.{counts_ok}
 use Rattle.form.specs.Form.{form_at, byte_at}
 use Rattle.form.specs.Many.{Run, many_at}
 use Rattle.form.specs.Words.{word_of}
 use Rattle.form.specs.Ends.{line_ends, first_line, first_lines}
 use Rattle.form.specs.BehindLaws.{SameLines, form_line, form_same, form_next, many_same, many_next, key_same, key_next, byte_same, end_next}
-use Rattle.form.specs.Keys.{key_at}
-use Rattle.form.specs.declared.keys.Key.{Key}
-use Rattle.text.specs.declared.card.Counts.{Counts}
+use Rattle.form.specs.Keys.{Key, key_at}
 use Rattle.text.specs.Lines.{reading_form, void_form, card_form, depth_form, share_form, soil_form}
 use Rattle.text.specs.Readings.{result_of, read_reading}
 use Rattle.text.specs.Voids.{void_result, read_void, read_entry}
-use Rattle.text.specs.Cards.{range_counts, counts_of, counts_of_out, unsaid_share, tail_at, Depths, depths_at, Parsed, parse}
+use Rattle.text.specs.Cards.{Counts, range_counts, counts_of, counts_of_out, unsaid_share, tail_at, Depths, depths_at, Parsed, parse}
 
 -- reading a reading looks at the text's first line only, accepted or refused
 pub reading_behind : (s : List ℕ) → read_reading s ≡ read_reading (first_line s)

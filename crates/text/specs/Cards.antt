@@ -1,13 +1,15 @@
 -- Cards as text: what reading one finds, its one text, and what writing one checks. Definitions only.
-use Rattle.std.specs.Prelude.{ℕ, suc, ◌+◌, ◌*◌, List, [], ◌∷◌, ◌++◌, map, Bool, true, false, cond, ◌&&◌, get_or, length, take, drop, replicate, ltb, eqb, ℤ, pos}
+use Rattle.std.specs.Prelude.{ℕ, suc, ◌+◌, ◌*◌, List, [], ◌∷◌, ◌++◌, map, Bool, true, false, cond, ◌&&◌, get_or, length, take, drop, replicate, ltb, eqb, ℤ, pos, Option, Some, None, Result}
 use Rattle.std.proofs.lemmas.List.Edits.{sets}
-use Rattle.text.specs.declared.card.Counts.{Counts}
-use Rattle.text.specs.declared.card.Tail.{Tail}
+use Rattle.text.specs.declared.card.Counts.{Counts as FoundCounts}
+use Rattle.text.specs.declared.card.Tail.{Tail as FoundTail}
+use Rattle.text.specs.declared.Read.{Read}
+use Rattle.text.specs.declared.Unread.{Unread}
 use Rattle.cell.specs.declared.Card.{Card}
 use Rattle.cell.specs.declared.Refusal.TheVariants.{BadLengths}
 use Rattle.cell.specs.Ranges.{counts_ok, none_of}
 use Rattle.cell.specs.Refusals.{refusal_number, malformed}
-use Rattle.text.specs.declared.card.CardRead.{CardRead}
+use Rattle.text.specs.Reads.{CardRead, number_read, taken_read, line_read, value_read}
 use Rattle.form.specs.Form.{Out, form_at, form_text, byte_at}
 use Rattle.form.specs.Keys.{key_at, key_text}
 use Rattle.form.specs.Many.{Run, many_at, rows_text, many_fit}
@@ -15,7 +17,13 @@ use Rattle.form.specs.Words.{word_of}
 use Rattle.text.specs.Lines.{card_form, depth_form, share_form, soil_form}
 use Rattle.text.specs.Written.{fits_in}
 
--- the first line's two counts, where they are in range
+-- the first line's two counts, where they are in range, and the place behind them
+pub record Counts : Type 0 where
+  pub ok : Bool
+  pub next : ℕ
+  pub cells : ℕ
+  pub delays : ℕ
+
 abbrev pub no_counts : Counts
 no_counts = record { ok = false; next = 0; cells = 0; delays = 0 }
 
@@ -28,11 +36,20 @@ counts_of_out o = cond o.ok (range_counts o.next (word_of (get_or o.vals 0 (pos 
 unfoldable pub counts_of : List ℕ → Counts
 counts_of s = counts_of_out (form_at card_form s 0)
 
+abbrev pub counts_found : Option FoundCounts → Counts
+counts_found (Some h) = record { ok = true; next = h.next; cells = h.cells; delays = h.delays }
+counts_found None = no_counts
+
 -- [5] the share that a card has which does not say one
 abbrev pub unsaid_share : ℕ
 unsaid_share = 20
 
 -- the rest of the line: the share, where it is said, and the line's end
+pub record Tail : Type 0 where
+  pub ok : Bool
+  pub next : ℕ
+  pub share : ℕ
+
 abbrev pub no_tail : Tail
 no_tail = record { ok = false; next = 0; share = 0 }
 
@@ -40,6 +57,10 @@ unfoldable pub tail_at : List ℕ → ℕ → Tail
 tail_at s at =
     let k = key_at share_form unsaid_share s at in
     cond (k.ok && eqb (byte_at s k.next) 10) (record { ok = true; next = suc k.next; share = k.word }) no_tail
+
+abbrev pub tail_found : Option FoundTail → Tail
+tail_found (Some t) = record { ok = true; next = t.next; share = t.share }
+tail_found None = no_tail
 
 -- n depths and the rest of the line
 pub record Depths : Type 0 where
@@ -58,6 +79,9 @@ no_card = record { cells = 0; delays = 0; depths = replicate 30 0; share = 0 }
 
 abbrev pub refused_card : ℕ → ℕ → CardRead
 refused_card number line = record { number = number; taken = 0; line = line; card = no_card }
+
+abbrev pub card_given : Result (Read Card) Unread → CardRead
+card_given r = record { number = number_read r; taken = taken_read r; line = line_read r; card = value_read no_card r }
 
 -- the whole text of a card: the malformed line, 0 where none is, the place after it, the card and the soil numbers
 pub record Parsed : Type 0 where

@@ -1,5 +1,5 @@
 -- Document 01's example, line by line, computed over the definitions; and texts that are malformed. Assumes nothing.
-use Rattle.std.specs.Prelude.{◌≡◌, refl, List, [], ◌∷◌, ◌++◌, ℕ, ℤ, pos, negsuc, replicate}
+use Rattle.std.specs.Prelude.{◌≡◌, refl, List, [], ◌∷◌, ◌++◌, ℕ, ℤ, pos, negsuc, replicate, Ok, Err}
 use Prim.Native.String.{String}
 use Rattle.head.specs.Pattern.{carried_of}
 use Rattle.form.specs.Bytes.{bytes}
@@ -8,7 +8,6 @@ use Rattle.form.specs.Hex.{hex, hex_at, hex_go}
 use Rattle.form.specs.Form.{byte_at, val_at, val_text, form_at, form_text}
 use Rattle.form.specs.Many.{many_at, rows_text}
 use Rattle.form.specs.Keys.{key_at, key_text}
-use Rattle.cell.specs.declared.Answer.TheVariants.{Accepted, Refused}
 use Rattle.cell.specs.declared.Card.{Card}
 use Rattle.cell.specs.declared.Refusal.TheVariants.{Old}
 use Rattle.cell.specs.Ranges.{counts_ok}
@@ -104,11 +103,11 @@ unfolding void_text read_void read_entry read_reading form_text val_text dec dec
 void_cases = (refl, refl, refl, refl, refl, refl)
 
 -- what the program prints for them: three answers and the sheet; and a negative recharge
-pub printed : (answer_text 0 (Accepted (record { inflow = water 51800; runoff = water 14287; etvad = water 2000; etstor = water 0; etsat = water 500; drain = water 0; release = water 0; stored = water 34513; recharge = net (pos 500); left = water 34513 }))
+pub printed : (answer_text 0 (Ok (record { inflow = water 51800; runoff = water 14287; etvad = water 2000; etstor = water 0; etsat = water 500; drain = water 0; release = water 0; stored = water 34513; recharge = net (pos 500); left = water 34513 }))
     ≡ bytes "cell=0 code=0 inflow=51800 runoff=14287 etvad=2000 etstor=0 etsat=500 drain=0 release=0 stored=34513 recharge=500 left=34513\n")
-    × (answer_text 0 (Accepted (record { inflow = water 0; runoff = water 0; etvad = water 0; etstor = water 0; etsat = water 833; drain = water 0; release = water 34513; stored = water 0; recharge = net (pos 33680); left = water 0 }))
+    × (answer_text 0 (Ok (record { inflow = water 0; runoff = water 0; etvad = water 0; etstor = water 0; etsat = water 833; drain = water 0; release = water 34513; stored = water 0; recharge = net (pos 33680); left = water 0 }))
     ≡ bytes "cell=0 code=0 inflow=0 runoff=0 etvad=0 etstor=0 etsat=833 drain=0 release=34513 stored=0 recharge=33680 left=0\n")
-    × (answer_text 0 (Refused Old) ≡ bytes "cell=0 code=6 inflow=0 runoff=0 etvad=0 etstor=0 etsat=0 drain=0 release=0 stored=0 recharge=0 left=0\n")
+    × (answer_text 0 (Err Old) ≡ bytes "cell=0 code=6 inflow=0 runoff=0 etvad=0 etstor=0 etsat=0 drain=0 release=0 stored=0 recharge=0 left=0\n")
     × (sheet_text (record { steps = 2; inflow = water 51800; runoff = water 14287; etvad = water 2000; etstor = water 0; etsat = water 1333; drain = water 0; release = water 34513; stored = water 34513; recharge = net (pos 34180) })
     ≡ bytes "steps=2 inflow=51800 runoff=14287 etvad=2000 etstor=0 etsat=1333 drain=0 release=34513 stored=34513 recharge=34180\n")
     × (sheet_text (record { steps = 1; inflow = water 1000; runoff = water 0; etvad = water 0; etstor = water 0; etsat = water 5000; drain = water 50000; release = water 0; stored = water 0; recharge = net (negsuc 53999) })

@@ -1,6 +1,7 @@
 -- Cards, readings, voids, entries, answers and the sheet as text.
 pub mod Lines
 pub mod Written
+pub mod Reads
 pub mod Readings
 pub mod Voids
 pub mod Cards

@@ -1,8 +1,8 @@
 -- The lines that the program prints: one for an answer, one for the sheet. Definitions only.
 use Rattle.std.specs.Prelude.{ℕ, Bool, ◌&&◌, List, [], ◌∷◌, leb, ℤ, pos}
 use Rattle.form.specs.Form.{form_text}
+use Rattle.cell.specs.Answers.{Answer}
 use Rattle.cell.specs.declared.Amounts.{Amounts}
-use Rattle.cell.specs.declared.Answer.{Answer}
 use Rattle.cell.specs.Refusals.{malformed, number_of, amounts_of}
 use Rattle.site.specs.declared.Sheet.{Sheet}
 use Rattle.text.specs.Lines.{answer_form, sheet_form}

@@ -1,10 +1,12 @@
 -- Readings as text: what reading one finds, its one text, and what writing one checks. Definitions only.
-use Rattle.std.specs.Prelude.{ℕ, ◌≡◌, List, [], ◌∷◌, Bool, cond, get_or, ℤ, pos}
+use Rattle.std.specs.Prelude.{ℕ, ◌≡◌, List, [], ◌∷◌, Bool, cond, get_or, ℤ, pos, Result}
 use Rattle.head.specs.declared.Carried.{Carried}
 use Rattle.head.specs.Pattern.{pattern_of, carried_of}
 use Rattle.cell.specs.declared.Reading.{Reading}
 use Rattle.cell.specs.Refusals.{malformed}
-use Rattle.text.specs.declared.reading.ReadingRead.{ReadingRead}
+use Rattle.text.specs.declared.Read.{Read}
+use Rattle.text.specs.declared.Unread.{Unread}
+use Rattle.text.specs.Reads.{ReadingRead, number_read, taken_read, line_read, value_read}
 use Rattle.form.specs.Form.{Out, form_at, form_text}
 use Rattle.text.specs.Lines.{reading_form}
 use Rattle.form.specs.Words.{word_of}
@@ -77,6 +79,10 @@ result_of o =
 
 unfoldable pub read_reading : List ℕ → ReadingRead
 read_reading s = result_of (form_at reading_form s 0)
+
+-- a refused reader gives a reading of zeros
+abbrev pub reading_given : Result (Read Reading) Unread → ReadingRead
+reading_given r = record { number = number_read r; taken = taken_read r; line = line_read r; reading = value_read (fields_of []) r }
 
 -- writing a reading knows only the short buffer
 abbrev pub reading_checks : Reading → List ℕ → List (ℕ × Bool)

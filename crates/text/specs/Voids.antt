@@ -1,15 +1,15 @@
 -- [3] Voids as text, and entries: what reading one finds, its one text, and what writing one checks. Definitions only.
-use Rattle.std.specs.Prelude.{ℕ, List, [], ◌∷◌, Bool, cond, eqb, get_or, ℤ, pos}
+use Rattle.std.specs.Prelude.{ℕ, List, [], ◌∷◌, Bool, cond, eqb, get_or, ℤ, pos, Result}
 use Rattle.cell.specs.declared.Entry.{Entry}
 use Rattle.cell.specs.declared.Notice.{Notice}
 use Rattle.cell.specs.Refusals.{malformed}
 use Rattle.form.specs.Form.{Out, form_at, form_text}
 use Rattle.form.specs.Words.{word_of}
-use Rattle.text.specs.declared.entry.EntryRead.{EntryRead}
-use Rattle.text.specs.declared.reading.ReadingRead.{ReadingRead}
-use Rattle.text.specs.declared.void.VoidRead.{VoidRead}
+use Rattle.text.specs.declared.Read.{Read}
+use Rattle.text.specs.declared.Unread.{Unread}
+use Rattle.text.specs.Reads.{ReadingRead, VoidRead, EntryRead, number_read, taken_read, line_read, value_read}
 use Rattle.text.specs.Lines.{void_form}
-use Rattle.text.specs.Readings.{read_reading, text_of}
+use Rattle.text.specs.Readings.{fields_of, read_reading, text_of}
 use Rattle.text.specs.Written.{fits_in}
 
 -- the values of a void's line, and back
@@ -31,6 +31,10 @@ void_result o =
 unfoldable pub read_void : List ℕ → VoidRead
 read_void s = void_result (form_at void_form s 0)
 
+-- a refused reader gives a void of zeros
+abbrev pub void_given : Result (Read Notice) Unread → VoidRead
+void_given r = record { number = number_read r; taken = taken_read r; line = line_read r; notice = value_read (notice_at []) r }
+
 -- writing a void knows only the short buffer
 abbrev pub void_checks : Notice → List ℕ → List (ℕ × Bool)
 void_checks n b = (malformed, fits_in (void_text n) b) ∷ []
@@ -44,6 +48,10 @@ as_read x = record { number = x.number; taken = x.taken; line = x.line; entry = 
 
 unfoldable pub read_entry : List ℕ → EntryRead
 read_entry s = cond (eqb (read_void s).number 0) (voided (read_void s)) (as_read (read_reading s))
+
+-- a refused reader gives a reading of zeros
+abbrev pub entry_given : Result (Read Entry) Unread → EntryRead
+entry_given r = record { number = number_read r; taken = taken_read r; line = line_read r; entry = value_read (Entry.Reading (fields_of [])) r }
 
 abbrev pub entry_text : Entry → List ℕ
 entry_text (Entry.Reading r) = text_of r

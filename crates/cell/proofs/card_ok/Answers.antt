@@ -1,9 +1,7 @@
 use Rattle.cell.specs.Ranges.{counts_ok, depths_ok, share_ok, card_ok}
 use Rattle.cell.specs.RangeLaws.{many_delays}
-use lib.Dec.{leb}
-use borrow.Author.Tests.{le-leb}
-use mathlib.Core.Bool.{◌&&◌, and-true, and_assoc}
-use mathlib.Core.Path.{sym}
+use Rattle.std.proofs.Common.{leb, le-leb, ◌&&◌, sym}
+use Rattle.std.proofs.Math.Bool.{and-true, and_assoc}
 use Rattle.cell.proofs.card_ok.Goals as goal
 
 -- `cell::card_ok` meets its contract. Assumes nothing.

@@ -1,10 +1,4 @@
-use native.Mathlib.Omega.{arith}
-use mathlib.Core.Path.{◌≡◌, sym, ◌∙◌}
-use mathlib.Core.Bool.{Bool, true, ◌&&◌}
-use mathlib.Core.List.{List}
-use borrow.Author.Tests.{le-leb}
-use lib.Dec.{leb}
-use Prim.Native.Nat.{ℕ}
+use Rattle.std.proofs.Common.{arith, ◌≡◌, sym, ◌∙◌, Bool, true, ◌&&◌, List, le-leb, leb, ℕ}
 use Rattle.cell.specs.declared.Card.{Card}
 use Rattle.cell.specs.Ranges.{card_ok, row_ok}
 use Rattle.cell.specs.RangeLaws.{card_in, row_in}
@@ -19,13 +13,13 @@ row_by card row p e = sym (e ∙ rw (le-leb card.delays 30 (card_in card p).dela
 pub returns-then-not-card_ok : goal.returns-then-not-card_ok
 returns-then-not-card_ok c =
     let a = c.args in
-    rw c.nothing_collected.ensures (collect_card a.card a.row.now (sym c.card_ok.ensures ∙ c.if-not-card_ok.true))
+    collect_card a.card a.row.now (sym c.card_ok.ensures ∙ c.if-not-card_ok.true)
 
 pub returns-then-not-row_ok : goal.returns-then-not-row_ok
 returns-then-not-row_ok c =
     let a = c.args in
     let p = sym c.card_ok.ensures ∙ c.if-not-card_ok.false in
-    rw c.nothing_collected-then-not-row_ok.ensures (collect_row a.card a.row.now p (row_by a.card a.row.now p c.row_ok.ensures ∙ c.if-not-row_ok.true))
+    collect_row a.card a.row.now p (row_by a.card a.row.now p c.row_ok.ensures ∙ c.if-not-row_ok.true)
 
 pub empty-requires : goal.empty-requires
 empty-requires c =
@@ -37,4 +31,4 @@ pub returns : goal.returns
 returns c =
     let a = c.args in
     let p = sym c.card_ok.ensures ∙ c.if-not-card_ok.false in
-    collect_done a.card a.row.now p (row_by a.card a.row.now p c.row_ok.ensures ∙ c.if-not-row_ok.false) c.sum_of-runoff.ensures c.sum_of-drain.ensures c.empty.ensures
+    collect_done a.card a.row.now p (row_by a.card a.row.now p c.row_ok.ensures ∙ c.if-not-row_ok.false) c.of-runoff.ensures c.of-drain.ensures c.empty.ensures

@@ -4,4 +4,4 @@ use Rattle.cell.proofs.is_empty.Goals as goal
 pub returns : goal.returns
 unfolding no_sums
 returns c =
-    rw (c.sum_of-runoff.ensures, c.sum_of-drain.ensures)
+    rw (c.of-runoff.ensures, c.of-drain.ensures)

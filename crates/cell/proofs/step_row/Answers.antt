@@ -1,22 +1,13 @@
-use native.Mathlib.Omega.{arith}
-use mathlib.Core.Path.{◌≡◌, refl, sym, ap, ◌∙◌}
-use mathlib.Core.List.{List}
-use Prim.Native.Nat.{ℕ}
-use lib.IntN.{ℤ, pos}
-use lib.ListN.{get_or}
-use mir.Facts.{to_z-of_z}
-use borrow.Author.Rules.{sfits_of}
+use Rattle.std.proofs.Common.{Ok, Err, ◌≡◌, refl, sym, ap, ◌∙◌, List, ℕ, ℤ, pos, get_or, Bool, true, false, cond}
+use Rattle.cell.specs.Answers.{Answer, Verdict}
+use Rattle.std.proofs.lemmas.Result.{err_from_is_err_and}
 use Rattle.cell.specs.RangeLaws.{soil_in_lem}
 use Rattle.cell.specs.declared.Card.{Card}
 use Rattle.cell.specs.declared.Entry.{Entry}
 use Rattle.cell.specs.declared.Reading.{Reading}
 use Rattle.cell.specs.declared.Refusal.{Refusal}
 use Rattle.cell.specs.declared.Depth.{Depth}
-use Rattle.cell.specs.declared.Answer.{Answer}
 use Rattle.cell.specs.declared.ranges.Soil.{Soil}
-use Rattle.cell.specs.declared.Answer.TheVariants.{Accepted, Refused}
-use Rattle.cell.specs.declared.checks.Verdict.{Verdict}
-use Rattle.cell.specs.declared.checks.Verdict.TheVariants.{Fine, Bad}
 use Rattle.cell.specs.Parts.{Checked, AcceptGives}
 use Rattle.cell.specs.Ranges.{card_ok, soil_ok, soil_of, queue_of, life_of, next_of}
 use Rattle.cell.specs.Refusals.{refusal_number, number_of, nothing, amounts_of, unless, verdict_of}
@@ -24,49 +15,48 @@ use Rattle.cell.proofs.CheckLaws.{Passed, passed, checked, verdict_card}
 use Rattle.cell.specs.Still.{reading_of}
 use Rattle.cell.proofs.StillLaws.{verdict_as, amounts_as, row_as, take_as}
 use Rattle.cell.specs.Step.{amounts_by, row_after, sums_take, judged, final_of, answer_of, new_row, StepGives}
-use mathlib.Core.Bool.{Bool, true, false, cond}
 use Rattle.cell.specs.declared.Refusal.TheVariants.{BadSoil, FullSums}
-use Rattle.cell.proofs.Verdict.{verdict_of_lem}
+use Rattle.cell.proofs.Verdict.{verdict_is}
 use Rattle.cell.specs.declared.Amounts.{Amounts}
 use Rattle.cell.proofs.step_row.Goals as goal
 
 -- `cell::step_row` meets its contract: the entry is stepped as a reading, which has its verdict, its amounts and its row. Assumes nothing.
 -- by a verdict that refuses the row stays
-stays : (card : Card) (soil : List ℤ) (row : List ℕ) (e : Entry) {why : Refusal} → verdict_of card soil row e ≡ Bad why → StepGives card soil row e (Refused why) row
+stays : (card : Card) (soil : List ℤ) (row : List ℕ) (e : Entry) {why : Refusal} → verdict_of card soil row e ≡ Err why → StepGives card soil row e (Err why) row
 unfolding answer_of new_row final_of judged
 stays card soil row e h = record { answer_is = rw h; number_is = rw h; amounts_are = rw h; row_is = rw h }
 
-bad-soil : (card : Card) (soil : List ℤ) (row : List ℕ) (e : Entry) → card_ok card ≡ true → soil_ok soil ≡ false → verdict_of card soil row e ≡ Bad BadSoil
+bad_soil : (card : Card) (soil : List ℤ) (row : List ℕ) (e : Entry) → card_ok card ≡ true → soil_ok soil ≡ false → verdict_of card soil row e ≡ Err BadSoil
 unfolding verdict_of unless
-bad-soil card soil row e g s = rw (g, s)
+bad_soil card soil row e g s = rw (g, s)
 
 -- what the call gives by the verdict of the reading r
 module _ (card : Card) (soil : List ℤ) (row : List ℕ) (e : Entry) {r : Reading} (er : r ≡ reading_of e) {v : Verdict} (is : v ≡ verdict_of card soil row (Entry.Reading r)) where
   verdict : verdict_of card soil row e ≡ v
   verdict = sym (verdict_as card soil row e) ∙ ap (λ (x : Reading). verdict_of card soil row (Entry.Reading x)) (sym er) ∙ sym is
 
-  refused : {why : Refusal} → v ≡ Bad why → StepGives card soil row e (Refused why) row
+  refused : {why : Refusal} → v ≡ Err why → StepGives card soil row e (Err why) row
   refused f = stays card soil row e (verdict ∙ f)
 
-  passing : {d : Depth} → v ≡ Fine d → Passed card soil row e d
+  passing : {d : Depth} → v ≡ Ok d → Passed card soil row e d
   passing {d} f = passed card soil row e d (verdict ∙ f)
 
-  ranged : {d : Depth} → v ≡ Fine d → {s : Soil} → s ≡ soil_of soil → Checked card s r d
+  ranged : {d : Depth} → v ≡ Ok d → {s : Soil} → s ≡ soil_of soil → Checked card s r d
   ranged {d} f es = rw (es, er) (checked card soil row e d (passing f))
 
   -- 15 decides
-  module _ {d : Depth} (f : v ≡ Fine d) where
+  module _ {d : Depth} (f : v ≡ Ok d) where
     room : Bool
     room = sums_take card (soil_of soil) e d row
 
-    final : final_of card soil row e ≡ unless room FullSums (Fine d)
+    final : final_of card soil row e ≡ unless room FullSums (Ok d)
     unfolding final_of judged room
     final = rw (verdict ∙ f)
 
-    by-room : {A : Type 0} (b : Bool) (g : Depth → A) (k : Refusal → A) → cond b (g d) (k FullSums) ≡ judged (unless b FullSums (Fine d)) g k
+    by_room : {A : Type 0} (b : Bool) (g : Depth → A) (k : Refusal → A) → cond b (g d) (k FullSums) ≡ judged (unless b FullSums (Ok d)) g k
     unfolding judged unless
-    by-room true g k = refl
-    by-room false g k = refl
+    by_room true g k = refl
+    by_room false g k = refl
 
     accepted : {s : Soil} → s ≡ soil_of soil → {answer : Answer} {after : List ℕ} → AcceptGives card s r d row answer after → StepGives card soil row e answer after
     unfolding answer_of new_row room
@@ -79,19 +69,19 @@ module _ (card : Card) (soil : List ℤ) (row : List ℕ) (e : Entry) {r : Readi
         let amounts = amounts_as card (soil_of soil) top e d p.fields_fine c (queue_of card.delays row) in
         let rows = row_as card (soil_of soil) top e d p.fields_fine c row in
         let q = queue_of card.delays row in
-        let a : answer ≡ cond room (Accepted (amounts_by card (soil_of soil) e d q)) (Refused FullSums) = k.answer_is ∙ rw (took, amounts) in
+        let a : answer ≡ cond room (Ok (amounts_by card (soil_of soil) e d q)) (Err FullSums) = k.answer_is ∙ rw (took, amounts) in
         record {
-          answer_is = a ∙ rw final (by-room room (λ x. Accepted (amounts_by card (soil_of soil) e x q)) (λ why. Refused why));
-          number_is = ap number_of a ∙ number room (amounts_by card (soil_of soil) e d q) ∙ rw final (by-room room (λ x. 0) refusal_number);
-          amounts_are = ap amounts_of a ∙ given room (amounts_by card (soil_of soil) e d q) ∙ rw final (by-room room (λ x. amounts_by card (soil_of soil) e x q) (λ why. nothing));
-          row_is = k.row_is ∙ rw (took, ← rows, final) (by-room room (λ x. row_after card (soil_of soil) e x row) (λ why. row));
+          answer_is = a ∙ rw final (by_room room (λ x. Ok (amounts_by card (soil_of soil) e x q)) (λ why. Err why));
+          number_is = ap number_of a ∙ number room (amounts_by card (soil_of soil) e d q) ∙ rw final (by_room room (λ x. 0) refusal_number);
+          amounts_are = ap amounts_of a ∙ given room (amounts_by card (soil_of soil) e d q) ∙ rw final (by_room room (λ x. amounts_by card (soil_of soil) e x q) (λ why. nothing));
+          row_is = k.row_is ∙ rw (took, ← rows, final) (by_room room (λ x. row_after card (soil_of soil) e x row) (λ why. row));
         }
       where
-        number : (b : Bool) (a : Amounts) → number_of (cond b (Accepted a) (Refused FullSums)) ≡ cond b 0 (refusal_number FullSums)
+        number : (b : Bool) (a : Amounts) → number_of (cond b (Ok a) (Err FullSums)) ≡ cond b 0 (refusal_number FullSums)
         number true a = refl
         number false a = refl
 
-        given : (b : Bool) (a : Amounts) → amounts_of (cond b (Accepted a) (Refused FullSums)) ≡ cond b a nothing
+        given : (b : Bool) (a : Amounts) → amounts_of (cond b (Ok a) (Err FullSums)) ≡ cond b a nothing
         given true a = refl
         given false a = refl
 
@@ -100,41 +90,42 @@ returns-then-not-card_ok c =
     let a = c.args in
     stays a.card a.soil.now a.row.now a.e (verdict_card a.card a.soil.now a.row.now a.e (sym c.card_ok.ensures ∙ c.if-not-card_ok.true))
 
-pub returns-then-not-soil_ok : goal.returns-then-not-soil_ok
-returns-then-not-soil_ok c =
+pub returns-in_err-soil : goal.returns-in_err-soil
+returns-in_err-soil c =
     let a = c.args in
-    stays a.card a.soil.now a.row.now a.e (bad-soil a.card a.soil.now a.row.now a.e (sym c.card_ok.ensures ∙ c.if-not-card_ok.false) (sym c.soil_ok.ensures ∙ c.if-not-soil_ok.true))
+    let p = err_from_is_err_and c.from_residual.result c.from_residual.ensures.1 in
+    rw (p.1, p.2, c.in_err-soil.ensures.1) (stays a.card a.soil.now a.row.now a.e (bad_soil a.card a.soil.now a.row.now a.e (sym c.card_ok.ensures ∙ c.if-not-card_ok.false) c.in_err-soil.ensures.0))
 
-pub bounds-soil-0 : goal.bounds-soil-0
-bounds-soil-0 c =
-    let h = (soil_in_lem _ (sym c.soil_ok.ensures ∙ c.if-not-soil_ok.false)).long in omega arith
+pub judge-requires : goal.judge-requires
+unfolding soil_of
+judge-requires c =
+    rw c.in_ok-soil.ensures.1 (soil_in_lem _ c.in_ok-soil.ensures.0).top
 
-pub judge-verdict-requires : goal.judge-verdict-requires
-judge-verdict-requires c =
-    rw (to_z-of_z (sfits_of c.judge-arg-1.given)) (soil_in_lem _ (sym c.soil_ok.ensures ∙ c.if-not-soil_ok.false)).top
-
-pub soil_of-requires : goal.soil_of-requires
-soil_of-requires c =
-    sym c.soil_ok.ensures ∙ c.if-not-soil_ok.false
+pub invariant_of-day : goal.invariant_of-day
+unfolding life_of next_of
+invariant_of-day c =
+    let a = c.args in
+    let v = verdict_is a.card a.soil.now a.row.now _ (sym c.card_ok.ensures ∙ c.if-not-card_ok.false) c.in_ok-soil.ensures c.row_ok-fits.ensures c.number_at-life.ensures c.number_at-next.ensures c.judge.ensures in
+    record { checked = ranged a.card a.soil.now a.row.now a.e c.reading_of-reading.ensures v c.in_ok-depth.was c.in_ok-soil.ensures.1 }
 
 pub accept-requires : goal.accept-requires
 unfolding life_of next_of
 accept-requires c =
     let a = c.args in
-    let f = c.in-Fine.is in
-    record {
-      checked = ranged a.card a.soil.now a.row.now a.e c.reading_of-r.ensures (verdict_of_lem a.card a.soil.now a.row.now (Entry.Reading c.reading_of-r.result) _ _ _ _ (sym c.card_ok.ensures ∙ c.if-not-card_ok.false) (sym c.soil_ok.ensures ∙ c.if-not-soil_ok.false) c.row_ok-fits.ensures c.number_at-life.ensures c.number_at-next.ensures (rw (to_z-of_z (sfits_of c.judge-arg-1.given)) at c.judge-verdict.ensures)) f c.soil_of.ensures;
-      row_fits = (passing a.card a.soil.now a.row.now a.e c.reading_of-r.ensures (verdict_of_lem a.card a.soil.now a.row.now (Entry.Reading c.reading_of-r.result) _ _ _ _ (sym c.card_ok.ensures ∙ c.if-not-card_ok.false) (sym c.soil_ok.ensures ∙ c.if-not-soil_ok.false) c.row_ok-fits.ensures c.number_at-life.ensures c.number_at-next.ensures (rw (to_z-of_z (sfits_of c.judge-arg-1.given)) at c.judge-verdict.ensures)) f).row_ok_lem;
-    }
+    let v = verdict_is a.card a.soil.now a.row.now _ (sym c.card_ok.ensures ∙ c.if-not-card_ok.false) c.in_ok-soil.ensures c.row_ok-fits.ensures c.number_at-life.ensures c.number_at-next.ensures c.judge.ensures in
+    (passing a.card a.soil.now a.row.now a.e c.reading_of-reading.ensures v c.in_ok-depth.was).row_ok_lem
 
-pub returns-in-Bad : goal.returns-in-Bad
+pub returns-in_err-depth : goal.returns-in_err-depth
 unfolding life_of next_of
-returns-in-Bad c =
+returns-in_err-depth c =
     let a = c.args in
-    refused a.card a.soil.now a.row.now a.e c.reading_of-r.ensures (verdict_of_lem a.card a.soil.now a.row.now (Entry.Reading c.reading_of-r.result) _ _ _ _ (sym c.card_ok.ensures ∙ c.if-not-card_ok.false) (sym c.soil_ok.ensures ∙ c.if-not-soil_ok.false) c.row_ok-fits.ensures c.number_at-life.ensures c.number_at-next.ensures (rw (to_z-of_z (sfits_of c.judge-arg-1.given)) at c.judge-verdict.ensures)) c.in-Bad.is
+    let v = verdict_is a.card a.soil.now a.row.now _ (sym c.card_ok.ensures ∙ c.if-not-card_ok.false) c.in_ok-soil.ensures c.row_ok-fits.ensures c.number_at-life.ensures c.number_at-next.ensures c.judge.ensures in
+    let p = err_from_is_err_and c.from_residual-in_err-depth.result c.from_residual-in_err-depth.ensures.1 in
+    rw (p.1, p.2) (refused a.card a.soil.now a.row.now a.e c.reading_of-reading.ensures v c.in_err-depth.was)
 
-pub returns-in-Fine : goal.returns-in-Fine
+pub returns : goal.returns
 unfolding life_of next_of
-returns-in-Fine c =
+returns c =
     let a = c.args in
-    accepted a.card a.soil.now a.row.now a.e c.reading_of-r.ensures (verdict_of_lem a.card a.soil.now a.row.now (Entry.Reading c.reading_of-r.result) _ _ _ _ (sym c.card_ok.ensures ∙ c.if-not-card_ok.false) (sym c.soil_ok.ensures ∙ c.if-not-soil_ok.false) c.row_ok-fits.ensures c.number_at-life.ensures c.number_at-next.ensures (rw (to_z-of_z (sfits_of c.judge-arg-1.given)) at c.judge-verdict.ensures)) c.in-Fine.is c.soil_of.ensures c.accept.ensures
+    let v = verdict_is a.card a.soil.now a.row.now _ (sym c.card_ok.ensures ∙ c.if-not-card_ok.false) c.in_ok-soil.ensures c.row_ok-fits.ensures c.number_at-life.ensures c.number_at-next.ensures c.judge.ensures in
+    accepted a.card a.soil.now a.row.now a.e c.reading_of-reading.ensures v c.in_ok-depth.was c.in_ok-soil.ensures.1 c.accept.ensures

@@ -1,9 +1,6 @@
-use mathlib.Core.Path.{sym}
-use native.Mathlib.Nat.{div-eq_of_lt, lt_of_lt_of_le}
-use lib.Pow.{pow_mono}
-use borrow.Author.Rules.{rules}
+use Rattle.std.proofs.Common.{◌∙◌}
+use Rattle.head.proofs.Floor.{shift_is}
 use Rattle.head.proofs.shifted.Goals as goal
 
-pub returns-else-k-lt64 : goal.returns-else-k-lt64
-returns-else-k-lt64 c =
-    sym (div-eq_of_lt (lt_of_lt_of_le (search rules) (pow_mono c.if-k-lt64.false)))
+pub returns : goal.returns
+returns c = c.unwrap_or.ensures ∙ shift_is c.checked_shr.result c.args.n c.args.k c.checked_shr.ensures c.ranges.n.fits

@@ -1,10 +1,6 @@
+use Rattle.std.proofs.Common.{◌≡◌, ℕ, ◌+◌, ◌-◌, ◌*◌, ◌/◌, ◌≤◌, Bool, true, false, leb, refl, sym, ◌∙◌, arith, leb-true, le-leb}
+use Rattle.std.proofs.lemmas.Bool.{lt-leb, leb-false}
 use Rattle.journal.specs.Book.{room_for}
-use lib.Dec.{leb}
-use borrow.Author.Tests.{leb-true, leb-false, le-leb, lt-leb}
-use Prim.Native.Nat.{ℕ, ◌+◌, ◌-◌, ◌*◌, ◌/◌, ◌≤◌}
-use mathlib.Core.Bool.{Bool, true, false}
-use mathlib.Core.Path.{◌≡◌, refl, sym}
-use native.Mathlib.Omega.{arith}
 use Rattle.journal.proofs.has_room.Goals as goal
 
 -- `journal::has_room` meets its contract. Assumes nothing.
@@ -17,11 +13,11 @@ same_test n m h = go (leb n ((m - 300) / 5)) refl
     go true e = sym (le-leb (5 * n + 300) m (omega (arith, leb-true n ((m - 300) / 5) e)))
     go false e = sym (lt-leb (5 * n + 300) m (omega (arith, leb-false n ((m - 300) / 5) e)))
 
-pub returns-then-room-lt300 : goal.returns-then-room-lt300
-unfolding room_for
-returns-then-room-lt300 c =
-    sym (lt-leb (5 * c.args.len + 300) c.args.room (omega (arith, c.if-room-lt300.true)))
+pub returns-then-room-ge300 : goal.returns-then-room-ge300
+returns-then-room-ge300 c =
+    same_test c.args.len c.args.room c.if-room-ge300.true
 
-pub returns : goal.returns
-returns c =
-    same_test c.args.len c.args.room c.if-room-lt300.false
+pub returns-else-room-ge300 : goal.returns-else-room-ge300
+unfolding room_for
+returns-else-room-ge300 c =
+    lt-leb 300 c.args.room c.if-room-ge300.false ∙ sym (lt-leb (5 * c.args.len + 300) c.args.room (omega (arith, c.if-room-ge300.false)))

@@ -17,4 +17,4 @@ pub returns : goal.returns
 unfolding rows_fit
 returns c =
     let a = c.args in
-    rw c.zero.ensures (clear_done a.card a.rows.now (sym c.card_ok.ensures ∙ c.if-not-card_ok.false) (eq-eqb _ _ c.if-rows-cells.false))
+    rw (c.fill.ensures.after (λ y e. e)) (clear_done a.card a.rows.now (sym c.card_ok.ensures ∙ c.if-not-card_ok.false) (eq-eqb _ _ c.if-rows-cells.false))

@@ -8,6 +8,8 @@ use borrow.Rule.Slice.PartMut.{put_mid, Post-is}
 use lib.Dec.{ltb}
 use lib.ListN.{take, drop}
 use Rattle.cell.specs.declared.Card.{Card}
+use Rattle.std.specs.Prelude.{Result}
+use Rattle.cell.specs.declared.Refusal.{Refusal}
 use Rattle.cell.specs.declared.Collected.{Collected}
 use Rattle.cell.specs.Collect.{CollectGives}
 use Rattle.cell.specs.Ranges.{card_ok, row_width}
@@ -19,10 +21,10 @@ use Rattle.site.proofs.collect.Goals as goal
 
 -- `site::collect` meets its contract. Refused by check 1, 2 or 3, or what the named row gives, put back in its place. Assumes nothing.
 -- what the named row gave, put back in its place, over rows of w numbers
-row-gave : (card : Card) (rows : List ℕ) (k : ℕ) → card_ok card ≡ true → rows_fit card rows ≡ true → ltb k card.cells ≡ true → (w : ℕ) → w ≡ row_width card → (got : Collected) (after : List ℕ)
+row_gave : (card : Card) (rows : List ℕ) (k : ℕ) → card_ok card ≡ true → rows_fit card rows ≡ true → ltb k card.cells ≡ true → (w : ℕ) → w ≡ row_width card → (got : Result Collected Refusal) (after : List ℕ)
     → CollectGives card (take (w * k + w - w * k) (drop (w * k) rows)) got after → SumsGive card rows k got (put_mid (w * k) (w * k + w - w * k) rows after)
 unfolding part_at put_at
-row-gave card rows k p q s w ew got after g =
+row_gave card rows k p q s w ew got after g =
     let u : w * k + w - w * k ≡ w = omega arith in
     let h : CollectGives card (part_at (row_width card) k rows) got after = rw (u, ew) at g in
     let put : put_mid (w * k) (w * k + w - w * k) rows after ≡ put_at (row_width card) k after rows =
@@ -32,22 +34,22 @@ row-gave card rows k p q s w ew got after g =
 pub returns-then-not-card_ok : goal.returns-then-not-card_ok
 returns-then-not-card_ok c =
     let a = c.args in
-    rw c.nothing_collected.ensures (collect_bad_card a.card a.rows.now a.cell (sym c.card_ok.ensures ∙ c.if-not-card_ok.true))
+    collect_bad_card a.card a.rows.now a.cell (sym c.card_ok.ensures ∙ c.if-not-card_ok.true)
 
 pub returns-then-rows-cells : goal.returns-then-rows-cells
 unfolding rows_fit
 returns-then-rows-cells c =
     let a = c.args in
-    rw c.nothing_collected-then-rows-cells.ensures (collect_bad_length a.card a.rows.now a.cell (sym c.card_ok.ensures ∙ c.if-not-card_ok.false) (ne_eqb _ _ c.if-rows-cells.true))
+    collect_bad_length a.card a.rows.now a.cell (sym c.card_ok.ensures ∙ c.if-not-card_ok.false) (ne_eqb _ _ c.if-rows-cells.true)
 
 pub returns-then-cells-c : goal.returns-then-cells-c
 unfolding rows_fit
 returns-then-cells-c c =
     let a = c.args in
-    rw c.nothing_collected-then-cells-c.ensures (collect_bad_cell a.card a.rows.now a.cell (sym c.card_ok.ensures ∙ c.if-not-card_ok.false) (eq-eqb _ _ c.if-rows-cells.false) (le-ltb _ _ c.if-cells-c.true))
+    collect_bad_cell a.card a.rows.now a.cell (sym c.card_ok.ensures ∙ c.if-not-card_ok.false) (eq-eqb _ _ c.if-rows-cells.false) (le-ltb _ _ c.if-cells-c.true)
 
 pub returns : goal.returns
 unfolding rows_fit
 returns c =
     let a = c.args in
-    row-gave a.card a.rows.now a.cell (sym c.card_ok.ensures ∙ c.if-not-card_ok.false) (eq-eqb _ _ c.if-rows-cells.false) (lt-ltb _ _ c.if-cells-c.false) (row_width a.card) refl c.collect_row.result c.collect_row.new.row c.collect_row.ensures
+    row_gave a.card a.rows.now a.cell (sym c.card_ok.ensures ∙ c.if-not-card_ok.false) (eq-eqb _ _ c.if-rows-cells.false) (lt-ltb _ _ c.if-cells-c.false) (row_width a.card) refl c.collect_row.result c.collect_row.new.row c.collect_row.ensures

@@ -1,6 +1,6 @@
 use Rattle.text.proofs.WrittenLaws.{no_room, has_room, writes_none, writes_all}
 use Rattle.cell.specs.Refusals.{malformed}
-use native.Mathlib.Omega.{arith}
+use Rattle.std.proofs.Common.{arith}
 use Rattle.form.specs.Form.{form_text}
 use Rattle.text.proofs.put_line.Goals as goal
 

@@ -1,4 +1,4 @@
-use borrow.Author.Rules.{rules}
+use Rattle.std.proofs.Common.{rules}
 use Rattle.cell.specs.Refusals.{is_old}
 use Rattle.cell.proofs.checks.is_old.Goals as goal
 

@@ -1,41 +1,21 @@
-use native.Mathlib.Numerals.{add-one}
-use mathlib.Core.Path.{refl, sym, ◌∙◌}
-use Prim.Native.Nat.{◌-◌, ◌+◌}
-use native.Mathlib.Omega.{arith}
-use borrow.Author.Rules.{rules}
-use Rattle.form.specs.Hex.{hex_at}
-use Rattle.form.specs.HexLaws.{pow_8}
-use Rattle.form.proofs.Digits.{hex_end, hex_stop, hex_more, hex_done}
+use Rattle.std.proofs.Common.{◌≡◌, ◌+◌, get_or, ap, ◌∙◌, add-one, arith}
+use Rattle.form.specs.Hex.{hex_of}
+use Rattle.form.proofs.Digits.{hex_digits, hex_more, range_at}
 use Rattle.form.proofs.hex.hex_number.Goals as goal
 
-pub loop-k-init : goal.loop-k-init
-loop-k-init c =
-    (unfold hex_at in refl, omega arith, omega arith, omega arith)
+pub returns-in_err-v : goal.returns-in_err-v
+returns-in_err-v c =
+    let a = c.in_ok-get.ensures.lookup.0 in
+    let b = c.in_ok-c-items.ensures.lookup.0 in
+    let e = range_at _ _ _ c.args.at c.loop-c.c-index a.2 b.2 (omega arith) (omega arith) in
+    let d = c.in_err-v.ensures in
+    grind (arith, hex_digits)
 
-pub returns-then-s-i : goal.returns-then-s-i
-returns-then-s-i c =
-    sym (c.loop-k.invariant.0 ∙ hex_end _ (8 - (c.loop-k.k + 1)) _ _ _ (omega arith) (search rules))
-
-pub returns-then-d-gt15 : goal.returns-then-d-gt15
-returns-then-d-gt15 c =
-    sym (c.loop-k.invariant.0 ∙ hex_stop _ (8 - (c.loop-k.k + 1)) _ _ _ (omega arith) _ (search rules) c.hex_digit-d.ensures (search rules))
-
-pub overflow_mul-v : goal.overflow_mul-v
-overflow_mul-v c =
-    omega (arith, pow_8 c.loop-k.k (omega arith))
-
-pub overflow_add-v : goal.overflow_add-v
-overflow_add-v c =
-    omega (arith, pow_8 c.loop-k.k (omega arith))
-
-pub overflow_add-i : goal.overflow_add-i
-overflow_add-i c =
-    omega arith
-
-pub loop-k-preserved : goal.loop-k-preserved
-loop-k-preserved c =
-    (c.loop-k.invariant.0 ∙ hex_more _ (8 - (c.loop-k.k + 1)) _ _ _ (omega arith) _ (search rules) c.hex_digit-d.ensures (search rules), omega arith, rw (add-one c.loop-k.k) (omega arith), omega arith)
-
-pub returns : goal.returns
-returns c =
-    sym (c.loop-k.invariant.0 ∙ hex_done _ _ _ _ (omega arith))
+pub loop-c-preserved : goal.loop-c-preserved
+loop-c-preserved c =
+    let a = c.in_ok-get.ensures.lookup.0 in
+    let b = c.in_ok-c-items.ensures.lookup.0 in
+    let k = c.loop-c.c-index in
+    let d = c.in_ok-v.ensures in
+    let q : c.in_ok-v.field-0 ≡ hex_of (get_or c.args.s.now (c.args.at + k) 0) = d.0 ∙ ap hex_of (range_at _ _ _ c.args.at k a.2 b.2 (omega arith) (omega arith)) in
+    (rw q (c.loop-c.invariant.0 ∙ hex_more c.args.s.now c.args.at k (omega arith) (omega arith) c.loop-c.v (omega arith)), rw (add-one k) (omega arith))

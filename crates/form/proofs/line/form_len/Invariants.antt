@@ -1,11 +1,10 @@
-use mathlib.Core.Path.{◌≡◌}
-use Prim.Native.Nat.{◌≤◌, ◌-◌, ◌+◌, ◌*◌}
-use lib.ListN.{length, drop}
-use Rattle.form.specs.Form.{marks, form_text}
+use Rattle.std.proofs.Common.{◌≡◌, ◌≤◌, ◌+◌, ◌*◌, length, drop}
+use Rattle.form.specs.Form.{form_text, marks}
 use Rattle.form.proofs.line.form_len.Given as goal
 
-abbrev pub invariant-loop-k : goal.invariant-loop-k
-invariant-loop-k l = (l.n + length (form_text (drop l.k l.f) (drop l.j l.vals)) ≡ length (form_text l.f (drop l.first l.vals))) × (l.n ≤ 21 * l.k) × (l.j + marks (drop l.k l.f) ≤ length l.vals) × (l.k ≤ length l.f)
-
-abbrev pub decreases-loop-k : goal.decreases-loop-k
-decreases-loop-k l = length l.f - l.k
+abbrev pub invariant-loop-c : goal.invariant-loop-c
+invariant-loop-c l = record {
+  sum : l.n + length (form_text (drop l.c-index l.f) (drop l.j l.vals)) ≡ length (form_text l.f (drop l.first l.vals));
+  low : l.n ≤ 21 * l.c-index;
+  room : l.j + marks (drop l.c-index l.f) ≤ length l.vals;
+}

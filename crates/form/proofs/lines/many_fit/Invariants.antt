@@ -1,11 +1,11 @@
-use mathlib.Core.Path.{◌≡◌}
-use Prim.Native.Nat.{◌≤◌, ◌*◌, ◌-◌, ◌+◌}
-use lib.ListN.{length, drop}
+use Rattle.std.proofs.Common.{◌≡◌, ◌≤◌, ◌+◌, ◌-◌, ◌*◌, length, drop}
+use Rattle.form.specs.Form.{marks}
 use Rattle.form.specs.Many.{many_fit}
 use Rattle.form.proofs.lines.many_fit.Given as goal
 
-abbrev pub invariant-loop-k : goal.invariant-loop-k
-invariant-loop-k l = (many_fit l.n l.f (drop l.first l.vals) ≡ many_fit (l.n - l.k) l.f (drop l.j l.vals)) × (l.j + (l.n - l.k) * l.w ≤ length l.vals) × (l.k ≤ l.n)
-
-abbrev pub decreases-loop-k : goal.decreases-loop-k
-decreases-loop-k l = l.n - l.k
+abbrev pub invariant-loop : goal.invariant-loop
+invariant-loop l = record {
+  fit : many_fit l.n l.f (drop l.first l.vals) ≡ many_fit (l.n - l.counter) l.f (drop l.j l.vals);
+  room : l.j + (l.n - l.counter) * marks l.f ≤ length l.vals;
+  wide : l.w ≡ marks l.f;
+}

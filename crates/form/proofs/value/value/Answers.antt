@@ -1,41 +1,24 @@
-use Rattle.form.proofs.Digits.{val_dec, val_neg, val_pos, val_hex}
-use native.Mathlib.Omega.{arith}
-use Rattle.form.proofs.Digits.{at_most, hex_most, byte_below}
-use borrow.Author.Rules.{rules}
+use Rattle.std.proofs.Common.{sym, ◌∙◌, arith}
+use Rattle.std.proofs.lemmas.Int.{to_z_pos}
+use Rattle.std.specs.Int.{w64}
+use Rattle.form.proofs.Marked.{word_value, hex_value}
 use Rattle.form.proofs.value.value.Goals as goal
+use Rattle.form.proofs.value.value.Goals.{in-Word+in_ok-number-in-Word, in-Hex+in_ok-n-in-Hex}
 
-pub up-requires : goal.up-requires
-up-requires c =
-    at_most _ _ _ _ (omega arith) (omega arith) c.number.ensures
+pub returns-in_err-number-in-Word : goal.returns-in_err-number-in-Word
+returns-in_err-number-in-Word c =
+    rw c.in-Word.is (c.from_residual.ensures ∙ sym (word_value c.args.s.now c.args.at c.in_err-number-in-Word.ensures.value))
 
-pub returns-then-c-eq35 : goal.returns-then-c-eq35
-returns-then-c-eq35 c =
-    val_dec _ _ _ c.up.ensures c.number.ensures (search rules)
-
-pub overflow_add-at : goal.overflow_add-at
-overflow_add-at c =
-    omega (arith, byte_below c.args.s.now c.args.at (omega arith))
-
-pub down-requires : goal.down-requires
-down-requires c =
-    at_most _ _ _ _ (omega arith) (omega arith) c.number-then-byte_at-eq45.ensures
-
-pub returns-then-byte_at-eq45 : goal.returns-then-byte_at-eq45
-returns-then-byte_at-eq45 c =
-    val_neg _ _ _ c.down.ensures c.number-then-byte_at-eq45.ensures (search rules) (omega arith)
-
-pub up-requires-then-c-eq36 : goal.up-requires-then-c-eq36
-up-requires-then-c-eq36 c =
-    at_most _ _ _ _ (omega arith) (omega arith) c.number-then-c-eq36.ensures
-
-pub returns-then-c-eq36 : goal.returns-then-c-eq36
-returns-then-c-eq36 c =
-    val_pos _ _ _ c.up-then-c-eq36.ensures c.number-then-c-eq36.ensures (search rules) (omega arith)
-
-pub up-requires-2 : goal.up-requires-2
-up-requires-2 c =
-    hex_most _ _ c.hex_number.ensures
+pub returns-in_err-n-in-Hex : goal.returns-in_err-n-in-Hex
+returns-in_err-n-in-Hex c =
+    rw c.in-Hex.is (c.from_residual-in_err-n-in-Hex.ensures ∙ sym (hex_value c.args.s.now c.args.at c.in_err-n-in-Hex.ensures.value))
 
 pub returns : goal.returns
-returns c =
-    val_hex _ _ _ c.up-2.ensures c.hex_number.ensures (search rules) (search rules)
+returns c = elim c.match-mark.branch [
+  | in-Word+in_ok-number-in-Word w ↦
+      let r = w.in_ok-number-in-Word in
+      rw (w.n-is, w.in-Word.is, to_z_pos w64 r.n (omega (arith, r.ensures.small))) (sym (word_value c.args.s.now c.args.at r.ensures.value))
+  | in-Hex+in_ok-n-in-Hex w ↦
+      let r = w.in_ok-n-in-Hex in
+      rw (w.n-is, w.in-Hex.is, to_z_pos w64 r.n (omega (arith, r.ensures.small))) (sym (hex_value c.args.s.now c.args.at r.ensures.value))
+]

@@ -1,25 +1,15 @@
-use mir.Facts.{to_z-of_z}
-use native.Mathlib.Omega.{arith}
-use mathlib.Core.Path.{ap, sym, ◌∙◌}
-use lib.ListN.{length}
-use Rattle.form.specs.FormLaws.{text_neg, text_pos, len_hex, len_val}
-use Prim.Native.Nat.{ℕ}
-use Rattle.form.specs.Dec.{dec}
+use Rattle.std.proofs.Common.{arith, to_z-of_z}
+use Rattle.form.proofs.Values.{len_text, len_most}
 use Rattle.form.proofs.value.value_len.Goals as goal
-
--- `form::value::value_len` meets its contract. Assumes nothing.
-pub returns-then-c-eq37 : goal.returns-then-c-eq37
-returns-then-c-eq37 c =
-    omega (arith, len_hex c.args.c c.args.z c.if-c-eq37.true)
 
 pub overflow_add-result : goal.overflow_add-result
 overflow_add-result c =
-    omega (arith, len_val c.args.c c.args.z c.ranges.z, ap length (text_neg c.args.c c.args.z c.if-c-eq37.false (sym (rw (to_z-of_z c.ranges.z) at c.negative.ensures) ∙ c.if-negative.true)), (c.dec_len.ensures ∙ ap (λ (n : ℕ). length (dec n)) (rw (to_z-of_z c.ranges.z) at c.size.ensures)))
+    let f = rw (to_z-of_z c.ranges.z) at c.from.ensures in
+    let n = rw (c.unsigned_abs.ensures.value, to_z-of_z c.ranges.z) at c.dec_len.ensures in
+    omega (arith, len_text c.args.mark c.args.z c.in_default.not-Hex, len_most c.args.mark c.args.z c.ranges.z)
 
-pub returns-then-negative : goal.returns-then-negative
-returns-then-negative c =
-    omega (arith, len_val c.args.c c.args.z c.ranges.z, ap length (text_neg c.args.c c.args.z c.if-c-eq37.false (sym (rw (to_z-of_z c.ranges.z) at c.negative.ensures) ∙ c.if-negative.true)), (c.dec_len.ensures ∙ ap (λ (n : ℕ). length (dec n)) (rw (to_z-of_z c.ranges.z) at c.size.ensures)))
-
-pub returns : goal.returns
-returns c =
-    omega (arith, len_val c.args.c c.args.z c.ranges.z, ap length (text_pos c.args.c c.args.z c.if-c-eq37.false (sym (rw (to_z-of_z c.ranges.z) at c.negative.ensures) ∙ c.if-negative.false)), (c.dec_len-2.ensures ∙ ap (λ (n : ℕ). length (dec n)) (rw (to_z-of_z c.ranges.z) at c.size-2.ensures)))
+pub returns-in_default : goal.returns-in_default
+returns-in_default c =
+    let f = rw (to_z-of_z c.ranges.z) at c.from.ensures in
+    let n = rw (c.unsigned_abs.ensures.value, to_z-of_z c.ranges.z) at c.dec_len.ensures in
+    omega (arith, len_text c.args.mark c.args.z c.in_default.not-Hex, len_most c.args.mark c.args.z c.ranges.z)

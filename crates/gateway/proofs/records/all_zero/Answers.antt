@@ -1,23 +1,10 @@
-use Rattle.gateway.proofs.Signs.{zeros_turn, zeros_end}
-use mathlib.Core.Path.{refl, sym, ◌∙◌}
-use native.Mathlib.Omega.{arith}
+use Rattle.std.proofs.Common.{rules, tests, arith}
+use Rattle.std.proofs.lemmas.Grind.{common_steps}
+use Rattle.gateway.proofs.Signs.{zeros_is}
 use Rattle.gateway.proofs.records.all_zero.Goals as goal
-
-pub loop-i-init : goal.loop-i-init
-loop-i-init c =
-    (omega arith, refl)
-
-pub size_at-requires : goal.size_at-requires
-size_at-requires c =
-    c.loop-i-test.true
-
-pub loop-i-preserved : goal.loop-i-preserved
-loop-i-preserved c = (
-  omega arith,
-  rw c.size_at.ensures.0
-      (sym (zeros_turn c.loop-i.ok c.loop-i.i c.args.l.now c.loop-i-test.true) ∙ c.loop-i.invariant.1),
-)
 
 pub returns : goal.returns
 returns c =
-    sym (zeros_end c.loop-i.ok c.loop-i.i c.args.l.now c.loop-i-test.false) ∙ c.loop-i.invariant.1
+    let r = c.all.ensures.runs in
+    let u = rw (r.1, c.iter.ensures.rest) at (c.iter.ensures.runs r.0 r.0.seen) in
+    zeros_is r.0 (λ x. x.now) c.args.l.now u.0 u.1 u.8 c.all.result (λ a b q k. search (rules, tests)) (λ x h. grind (arith, common_steps)) (λ x h. grind (arith, common_steps)) r.2

@@ -1,66 +1,54 @@
-use mathlib.Core.Path.{refl, ◌∙◌}
-use Rattle.journal.proofs.Turns.{begin, end_fits, end_put, stop_fits, stop_put, fits, within, shorter, turn}
-use Rattle.journal.proofs.Lent.{rest_is}
-use Rattle.journal.specs.Book.{entries_text}
+use Rattle.std.proofs.Common.{refl, ◌∙◌, arith, rules}
 use Rattle.site.proofs.SheetSteps.{site_within}
-use Rattle.site.specs.Sheet.{no_steps}
-use lib.ListN.{length}
-use Prim.Native.Nat.{◌+◌}
-use native.Mathlib.Omega.{arith}
+use Rattle.text.proofs.ReadLaws.{no_zero}
+use Rattle.journal.proofs.Lent.{rest_is}
+use Rattle.journal.proofs.Turns.{begin, end_fits, end_put, stop_fits, stop_put, fits, within, shorter, turn}
 use Rattle.journal.proofs.entries.put_entries.Goals as goal
 
-pub loop-at-init : goal.loop-at-init
-loop-at-init c =
+pub loop-rest-init : goal.loop-rest-init
+loop-rest-init c =
     rw c.new-sheet.ensures (refl, begin c.args.card c.args.soil.now c.args.s.now c.args.rows.now c.args.out.now c.args.first)
 
 pub put_malformed-requires : goal.put_malformed-requires
 put_malformed-requires c =
-    (omega (arith, c.loop-at.invariant.1.count, c.requires.0), omega (arith, stop_fits c.args.card c.args.soil.now c.args.s.now (entries_text (length c.args.s.now) c.args.card c.args.soil.now c.args.rows.now no_steps c.args.first c.args.s.now) c.args.out.now (c.args.first + length c.args.s.now) c.loop-at.rows c.loop-at.out c.loop-at.sheet c.loop-at.at c.loop-at.line c.loop-at.end c.loop-at.invariant.1 c.loop-at-test.true c.read-x.result (rw (rest_is c.loop-at.at c.args.s.now) at c.read-x.ensures) c.if-x-ne0.true, c.loop-at.invariant.1.same, c.requires.1))
+    let i = c.loop-rest.invariant.1 in
+    (omega (arith, i.count, c.requires.0), omega (arith, stop_fits _ _ _ _ _ _ _ _ _ _ _ i (search rules) _ c.in_default.ensures (no_zero _), i.same, c.requires.1))
 
-pub shape_of-rows-then-x-ne0 : goal.shape_of-rows-then-x-ne0
-shape_of-rows-then-x-ne0 c =
-    c.loop-at.invariant.0
-
-pub shape_of-out-then-x-ne0 : goal.shape_of-out-then-x-ne0
-shape_of-out-then-x-ne0 c =
-    c.put_malformed.auto.out ∙ c.loop-at.invariant.1.same
-
-pub returns-then-x-ne0 : goal.returns-then-x-ne0
-returns-then-x-ne0 c =
-    (c.put_malformed.ensures.0 ∙ stop_fits c.args.card c.args.soil.now c.args.s.now (entries_text (length c.args.s.now) c.args.card c.args.soil.now c.args.rows.now no_steps c.args.first c.args.s.now) c.args.out.now (c.args.first + length c.args.s.now) c.loop-at.rows c.loop-at.out c.loop-at.sheet c.loop-at.at c.loop-at.line c.loop-at.end c.loop-at.invariant.1 c.loop-at-test.true c.read-x.result (rw (rest_is c.loop-at.at c.args.s.now) at c.read-x.ensures) c.if-x-ne0.true, c.put_malformed.ensures.1 ∙ stop_put c.args.card c.args.soil.now c.args.s.now (entries_text (length c.args.s.now) c.args.card c.args.soil.now c.args.rows.now no_steps c.args.first c.args.s.now) c.args.out.now (c.args.first + length c.args.s.now) c.loop-at.rows c.loop-at.out c.loop-at.sheet c.loop-at.at c.loop-at.line c.loop-at.end c.loop-at.invariant.1 c.loop-at-test.true c.read-x.result (rw (rest_is c.loop-at.at c.args.s.now) at c.read-x.ensures) c.if-x-ne0.true)
+pub returns-in_default : goal.returns-in_default
+returns-in_default c =
+    let i = c.loop-rest.invariant.1 in
+    (c.put_malformed.ensures.0 ∙ stop_fits _ _ _ _ _ _ _ _ _ _ _ i (search rules) _ c.in_default.ensures (no_zero _), c.put_malformed.ensures.1 ∙ stop_put _ _ _ _ _ _ _ _ _ _ _ i (search rules) _ c.in_default.ensures (no_zero _))
 
 pub put_answer-end-requires : goal.put_answer-end-requires
 put_answer-end-requires c =
-    (rw c.step-answer.ensures.answer_is (site_within c.args.card c.args.soil.now c.loop-at.rows c.read-x.result.entry), omega (arith, fits c.args.card c.args.soil.now c.args.s.now (entries_text (length c.args.s.now) c.args.card c.args.soil.now c.args.rows.now no_steps c.args.first c.args.s.now) c.args.out.now (c.args.first + length c.args.s.now) c.loop-at.rows c.loop-at.out c.loop-at.sheet c.loop-at.at c.loop-at.line c.loop-at.end c.loop-at.invariant.1 c.loop-at-test.true c.read-x.result (rw (rest_is c.loop-at.at c.args.s.now) at c.read-x.ensures) c.if-x-ne0.false c.step-answer.result c.step-answer.ensures.answer_is, c.loop-at.invariant.1.same, c.requires.1))
+    let i = c.loop-rest.invariant.1 in
+    (rw c.step-answer.ensures.answer_is (site_within c.args.card c.args.soil.now c.loop-rest.rows c.in-Ok.field-0.value), omega (arith, fits _ _ _ _ _ _ _ _ _ _ _ i (search rules) _ c.in-Ok.ensures refl _ c.step-answer.ensures.answer_is, i.same, c.requires.1))
 
-pub overflow_add-at : goal.overflow_add-at
-overflow_add-at c =
-    omega (arith, c.requires.0, within c.args.card c.args.soil.now c.args.s.now (entries_text (length c.args.s.now) c.args.card c.args.soil.now c.args.rows.now no_steps c.args.first c.args.s.now) c.args.out.now (c.args.first + length c.args.s.now) c.loop-at.rows c.loop-at.out c.loop-at.sheet c.loop-at.at c.loop-at.line c.loop-at.end c.loop-at.invariant.1 c.loop-at-test.true c.read-x.result (rw (rest_is c.loop-at.at c.args.s.now) at c.read-x.ensures) c.if-x-ne0.false c.step-answer.result c.step-answer.ensures.answer_is)
+pub slice_bounds-rest-count : goal.slice_bounds-rest-count
+slice_bounds-rest-count c =
+    within _ _ _ _ _ _ _ _ _ _ _ c.loop-rest.invariant.1 (search rules) _ c.in-Ok.ensures refl
 
-pub overflow_add-line : goal.overflow_add-line
-overflow_add-line c =
-    omega (arith, c.loop-at.invariant.1.count, c.requires.0)
+pub slice_bounds-rest-start : goal.slice_bounds-rest-start
+slice_bounds-rest-start c =
+    within _ _ _ _ _ _ _ _ _ _ _ c.loop-rest.invariant.1 (search rules) _ c.in-Ok.ensures refl
 
-pub loop-at-smaller : goal.loop-at-smaller
-loop-at-smaller c =
-    omega (arith, c.loop-at-test.true, shorter c.args.card c.args.soil.now c.args.s.now (entries_text (length c.args.s.now) c.args.card c.args.soil.now c.args.rows.now no_steps c.args.first c.args.s.now) c.args.out.now (c.args.first + length c.args.s.now) c.loop-at.rows c.loop-at.out c.loop-at.sheet c.loop-at.at c.loop-at.line c.loop-at.end c.loop-at.invariant.1 c.loop-at-test.true c.read-x.result (rw (rest_is c.loop-at.at c.args.s.now) at c.read-x.ensures) c.if-x-ne0.false c.step-answer.result c.step-answer.ensures.answer_is)
+pub loop-rest-smaller : goal.loop-rest-smaller
+loop-rest-smaller c =
+    rw (rest_is c.in-Ok.field-0.taken c.loop-rest.rest.now) (shorter _ _ _ _ _ _ _ _ _ _ _ c.loop-rest.invariant.1 (search rules) _ c.in-Ok.ensures refl)
 
-pub loop-at-preserved : goal.loop-at-preserved
-loop-at-preserved c =
-    (c.step-answer.auto.rows ∙ c.loop-at.invariant.0, turn c.args.card c.args.soil.now c.args.s.now (entries_text (length c.args.s.now) c.args.card c.args.soil.now c.args.rows.now no_steps c.args.first c.args.s.now) c.args.out.now (c.args.first + length c.args.s.now) c.loop-at.rows c.loop-at.out c.loop-at.sheet c.loop-at.at c.loop-at.line c.loop-at.end c.loop-at.invariant.1 c.loop-at-test.true c.read-x.result (rw (rest_is c.loop-at.at c.args.s.now) at c.read-x.ensures) c.if-x-ne0.false c.step-answer.result c.step-answer.ensures.answer_is _ _ _ _ c.step-answer.ensures.rows_are c.put_answer-end.ensures.1 c.put_answer-end.auto.out c.add-added.ensures c.put_answer-end.ensures.0)
+pub loop-rest-preserved : goal.loop-rest-preserved
+loop-rest-preserved c = (
+  c.step-answer.auto.rows ∙ c.loop-rest.invariant.0,
+  turn _ _ _ _ _ _ _ _ _ _ _ c.loop-rest.invariant.1 (search rules) _ c.in-Ok.ensures refl _ c.step-answer.ensures.answer_is
+      _ _ _ _ _ c.step-answer.ensures.rows_are c.put_answer-end.ensures.1 c.put_answer-end.auto.out (rest_is c.in-Ok.field-0.taken c.loop-rest.rest.now) c.add-added.ensures c.put_answer-end.ensures.0,
+)
 
 pub put_sheet-requires : goal.put_sheet-requires
 put_sheet-requires c =
-    (c.loop-at.invariant.1.kept, omega (arith, end_fits c.args.card c.args.soil.now c.args.s.now (entries_text (length c.args.s.now) c.args.card c.args.soil.now c.args.rows.now no_steps c.args.first c.args.s.now) c.args.out.now (c.args.first + length c.args.s.now) c.loop-at.rows c.loop-at.out c.loop-at.sheet c.loop-at.at c.loop-at.line c.loop-at.end c.loop-at.invariant.1 c.loop-at-test.false, c.loop-at.invariant.1.same, c.requires.1))
-
-pub shape_of-rows : goal.shape_of-rows
-shape_of-rows c =
-    c.loop-at.invariant.0
-
-pub shape_of-out : goal.shape_of-out
-shape_of-out c =
-    c.put_sheet.auto.out ∙ c.loop-at.invariant.1.same
+    let i = c.loop-rest.invariant.1 in
+    (i.kept, omega (arith, end_fits _ _ _ _ _ _ _ _ _ _ _ i (search rules), i.same, c.requires.1))
 
 pub returns : goal.returns
 returns c =
-    (c.put_sheet.ensures.0 ∙ end_fits c.args.card c.args.soil.now c.args.s.now (entries_text (length c.args.s.now) c.args.card c.args.soil.now c.args.rows.now no_steps c.args.first c.args.s.now) c.args.out.now (c.args.first + length c.args.s.now) c.loop-at.rows c.loop-at.out c.loop-at.sheet c.loop-at.at c.loop-at.line c.loop-at.end c.loop-at.invariant.1 c.loop-at-test.false, c.put_sheet.ensures.1 ∙ end_put c.args.card c.args.soil.now c.args.s.now (entries_text (length c.args.s.now) c.args.card c.args.soil.now c.args.rows.now no_steps c.args.first c.args.s.now) c.args.out.now (c.args.first + length c.args.s.now) c.loop-at.rows c.loop-at.out c.loop-at.sheet c.loop-at.at c.loop-at.line c.loop-at.end c.loop-at.invariant.1 c.loop-at-test.false)
+    let i = c.loop-rest.invariant.1 in
+    (c.put_sheet.ensures.0 ∙ end_fits _ _ _ _ _ _ _ _ _ _ _ i (search rules), c.put_sheet.ensures.1 ∙ end_put _ _ _ _ _ _ _ _ _ _ _ i (search rules))

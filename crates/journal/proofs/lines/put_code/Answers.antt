@@ -1,16 +1,16 @@
-use native.Mathlib.Omega.{arith}
+use Rattle.std.proofs.Common.{arith, w64, rules}
 use mir.Facts.{to_z_pos}
-use mir.Syntax.{w64}
+use Rattle.cell.specs.Refusals.{refusal_number}
+use Rattle.cell.proofs.CheckLaws.{refusal_in}
 use Rattle.journal.specs.Book.{code_text}
-use borrow.Author.Rules.{rules}
 use Rattle.journal.proofs.lines.put_code.Goals as goal
 
 pub put_form-requires : goal.put_form-requires
 unfolding code_text
 put_form-requires c =
-    (search rules, rw (to_z_pos w64 {n = c.args.number} (omega arith)) c.requires)
+    (search rules, rw (c.from-2.ensures, c.from.ensures, to_z_pos w64 {n = refusal_number c.args.why} (omega (arith, (refusal_in c.args.why).1))) c.requires)
 
 pub returns : goal.returns
 unfolding code_text
 returns c =
-    rw (to_z_pos w64 {n = c.args.number} (omega arith)) at c.put_form.ensures
+    rw (c.from-2.ensures, c.from.ensures, to_z_pos w64 {n = refusal_number c.args.why} (omega (arith, (refusal_in c.args.why).1))) at c.put_form.ensures

@@ -1,7 +1,6 @@
+use Rattle.std.proofs.Common.{w64, rules}
 use mir.Facts.{to_z_pos}
-use mir.Syntax.{w64}
 use Rattle.journal.specs.Book.{malformed_text}
-use borrow.Author.Rules.{rules}
 use Rattle.journal.proofs.lines.put_malformed.Goals as goal
 
 pub put_form-requires : goal.put_form-requires

@@ -1,16 +1,9 @@
-use Rattle.node.proofs.Turns.{zeros_turn, zeros_end}
-use mathlib.Core.Path.{refl, sym, ◌∙◌}
-use native.Mathlib.Omega.{arith}
+use Rattle.std.proofs.Common.{◌∙◌, rules, tests, eqb}
+use Rattle.std.proofs.lemmas.Iterator.{YieldsList-from_slice}
+use Rattle.std.proofs.lemmas.Iterator.Search.{all_from_yields_List}
+use Rattle.node.proofs.Turns.{zeros_all}
 use Rattle.node.proofs.numbers.all_zero.Goals as goal
-
-pub loop-i-init : goal.loop-i-init
-loop-i-init c =
-    (omega arith, refl)
-
-pub loop-i-preserved : goal.loop-i-preserved
-loop-i-preserved c =
-    (omega arith, sym (zeros_turn c.loop-i.ok c.loop-i.i c.args.l.now c.loop-i-test.true) ∙ c.loop-i.invariant.1)
 
 pub returns : goal.returns
 returns c =
-    sym (zeros_end c.loop-i.ok c.loop-i.i c.args.l.now c.loop-i-test.false) ∙ c.loop-i.invariant.1
+    all_from_yields_List (λ n. eqb n 0) _ _ c.all.result c.all.ensures.ran (YieldsList-from_slice c.args.l.now cc) (λ x t q k. search (rules, tests)) ∙ zeros_all c.args.l.now

@@ -1,88 +1,30 @@
-use Rattle.node.proofs.Turns.{part_wide, part_is, places_turn, places_end}
-use Rattle.outbox.specs.Outbox.{place}
-use Rattle.node.specs.Numbers.{box_from}
-use lib.ListN.{length-set}
-use Prim.Native.Nat.{◌+◌, ◌*◌}
-use mathlib.Core.Path.{refl, sym, ◌∙◌}
-use native.Mathlib.Omega.{arith}
+use Rattle.std.proofs.Common.{◌≡◌, true, false, sym, ap, ◌∙◌, arith, drop, get_or, [], length-set, drop_of_length-le}
+use Rattle.std.specs.List.{list_all}
+use Rattle.node.specs.Numbers.{is_entry, places_from, all_entries, box_from}
+use Rattle.node.proofs.Turns.{was_entry, was_none, row_entry, row_none, row_read, rows_entries, rows_places, rows_end}
 use Rattle.node.proofs.numbers.box_from.Goals as goal
 
-pub loop-i-init : goal.loop-i-init
-loop-i-init c =
-    (refl, refl)
-
-pub overflow_mul-from : goal.overflow_mul-from
-overflow_mul-from c =
-    omega arith
-
-pub overflow_add-from : goal.overflow_add-from
-overflow_add-from c =
-    omega arith
-
-pub overflow_add-to : goal.overflow_add-to
-overflow_add-to c =
-    omega arith
-
-pub offset_bounds-l-from : goal.offset_bounds-l-from
-offset_bounds-l-from c =
-    omega arith
-
-pub slice_bounds-entry_from-count : goal.slice_bounds-entry_from-count
-slice_bounds-entry_from-count c =
-    omega arith
-
-pub slice_bounds-entry_from-start : goal.slice_bounds-entry_from-start
-slice_bounds-entry_from-start c =
-    omega arith
-
-pub slice_bounds-entry_from-end : goal.slice_bounds-entry_from-end
-slice_bounds-entry_from-end c =
-    omega arith
-
-pub entry_from-requires : goal.entry_from-requires
-entry_from-requires c =
-    part_wide (4 + 11 * c.loop-i.i) 11 c.args.l.now (omega arith)
-
-pub offset_bounds-places-i : goal.offset_bounds-places-i
-offset_bounds-places-i c =
-    omega arith
-
-pub bounds-places-i : goal.bounds-places-i
-bounds-places-i c =
-    omega arith
-
-pub overflow_add-i : goal.overflow_add-i
-overflow_add-i c =
-    omega arith
-
-pub loop-i-smaller : goal.loop-i-smaller
-loop-i-smaller c =
-    omega arith
+pub returns-in_err-entry : goal.returns-in_err-entry
+returns-in_err-entry c =
+    let rows = c.as_chunks.result.0.now in
+    let n = was_none (get_or rows c.loop-i.i []) (sym c.entry_from.ensures ∙ c.in_err-entry.was) in
+    let none : false ≡ all_entries c.args.l.now = row_none rows c.loop-i.i [] c.loop-i-test.true n ∙ c.loop-i.invariant.2 ∙ rows_entries c.args.l.now c.told-l c.as_chunks.ensures.front in
+    rw (c.from_residual.ensures, ← none)
 
 pub loop-i-preserved : goal.loop-i-preserved
 loop-i-preserved c =
-    let l = c.args.l.now in (
-      length-set c.loop-i.places c.loop-i.i (place c.entry_from.result) ∙ c.loop-i.invariant.0,
-      rw (c.entry_from.ensures, part_is (4 + 11 * c.loop-i.i) 11 l) (places_turn c.loop-i.places c.loop-i.i l c.loop-i-test.true c.loop-i.invariant.0 ∙ c.loop-i.invariant.1),
+    let rows = c.as_chunks.result.0.now in
+    let w = was_entry (get_or rows c.loop-i.i []) c.in_ok-entry.entry (sym c.entry_from.ensures ∙ c.in_ok-entry.was) in (
+      length-set c.loop-i.places c.loop-i.i _ ∙ c.loop-i.invariant.0,
+      row_read rows c.loop-i.i [] c.loop-i-test.true c.loop-i.places c.in_ok-entry.entry (omega arith) w.1 ∙ c.loop-i.invariant.1,
+      row_entry rows c.loop-i.i [] c.loop-i-test.true w.0 ∙ c.loop-i.invariant.2,
     )
-
-pub bounds-l-0 : goal.bounds-l-0
-bounds-l-0 c =
-    omega arith
-
-pub bounds-l-1 : goal.bounds-l-1
-bounds-l-1 c =
-    omega arith
-
-pub bounds-l-2 : goal.bounds-l-2
-bounds-l-2 c =
-    omega arith
-
-pub bounds-l-3 : goal.bounds-l-3
-bounds-l-3 c =
-    omega arith
 
 pub returns : goal.returns
 unfolding box_from
 returns c =
-    rw (sym (places_end c.loop-i.places c.loop-i.i c.args.l.now c.loop-i-test.false c.loop-i.invariant.0) ∙ c.loop-i.invariant.1)
+    let l = c.args.l.now in
+    let rows = c.as_chunks.result.0.now in
+    let all : true ≡ all_entries l = sym (ap (list_all is_entry) (drop_of_length-le rows c.loop-i-test.false)) ∙ c.loop-i.invariant.2 ∙ rows_entries l c.told-l c.as_chunks.ensures.front in
+    let places : c.loop-i.places ≡ places_from 30 (drop 4 l) = sym (rows_end rows c.loop-i.places c.loop-i.i c.loop-i-test.false (omega (arith, c.as_chunks.ensures.front_len))) ∙ c.loop-i.invariant.1 ∙ rows_places l c.told-l c.as_chunks.ensures.front in
+    rw (← all, places)

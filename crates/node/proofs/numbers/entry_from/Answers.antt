@@ -1,18 +1,25 @@
-use Rattle.node.specs.Numbers.{entry_from}
-use Rattle.node.proofs.Turns.{rest_is}
-use Rattle.cell.specs.declared.Entry.{Entry}
-use Rattle.cell.specs.declared.Notice.{Notice}
-use Rattle.cell.specs.declared.Reading.{Reading}
-use mathlib.Core.Path.{ap}
-use borrow.Author.Tests.{eq-eqb, ne_eqb}
+use Rattle.std.proofs.Common.{◌-◌, drop, sym, ap, ◌∙◌, arith}
+use Rattle.node.specs.Numbers.{zeros}
+use Rattle.node.proofs.Turns.{reads_reading, reads_void, reads_figures, reads_none}
 use Rattle.node.proofs.numbers.entry_from.Goals as goal
 
-pub returns-then-l-eq0 : goal.returns-then-l-eq0
-unfolding entry_from
-returns-then-l-eq0 c =
-    rw (eq-eqb _ _ c.if-l-eq0.true, ← rest_is 1 c.args.l.now) (ap (λ (r : Reading). Entry.Reading r) c.reading_from.ensures)
+pub returns-in-0 : goal.returns-in-0
+returns-in-0 c =
+    let l = c.args.l.now in
+    rw c.reading_from.ensures (reads_reading l (c.in_ok-row.ensures.cases.1.same ∙ ap (λ n. drop (n - 10) l) c.told-l) c.in-0.is)
 
-pub returns : goal.returns
-unfolding entry_from
-returns c =
-    rw (ne_eqb _ _ c.if-l-eq0.false) (ap (λ (n : Notice). Entry.Void n) c.notice_from.ensures)
+pub returns-then-all_zero : goal.returns-then-all_zero
+returns-then-all_zero c =
+    let l = c.args.l.now in
+    let n = c.in_ok-notice-in-1.ensures.cases in
+    rw (c.notice_from.ensures, n.0)
+    (reads_void l (c.in_ok-row.ensures.cases.1.same ∙ ap (λ n. drop (n - 10) l) c.told-l) c.in-1.is (ap zeros (sym n.1) ∙ sym c.all_zero.ensures ∙ c.if-all_zero.true))
+
+pub returns-else-all_zero : goal.returns-else-all_zero
+returns-else-all_zero c =
+    let l = c.args.l.now in
+    reads_figures l (c.in_ok-row.ensures.cases.1.same ∙ ap (λ n. drop (n - 10) l) c.told-l) c.in-1.is
+    (ap zeros (sym c.in_ok-notice-in-1.ensures.cases.1) ∙ sym c.all_zero.ensures ∙ c.if-all_zero.false)
+
+pub returns-in_default : goal.returns-in_default
+returns-in_default c = reads_none c.args.l.now (λ k. omega arith) (λ k. omega arith)

@@ -1,25 +1,21 @@
-use Rattle.outbox.specs.Laws.{numbers_in, form_bad, form_by}
+use Rattle.std.proofs.Common.{refl, sym, ◌∙◌}
+use Rattle.outbox.specs.Laws.{form_bad, form_by}
 use Rattle.outbox.specs.Outbox.{numbers_ok}
-use mathlib.Core.Path.{sym}
 use Rattle.outbox.proofs.form.form_ok.Goals as goal
+use Rattle.outbox.proofs.form.form_ok.Goals.{then-numbers, else-numbers}
 
--- `outbox::form::form_ok` meets its contract. Assumes nothing.
-pub returns-then-not-numbers : goal.returns-then-not-numbers
+pub returns-then-in_turn : goal.returns-then-in_turn
 unfolding numbers_ok
-returns-then-not-numbers c =
-    sym (form_bad c.args.b (c.if-not-numbers.true))
+returns-then-in_turn c =
+    elim c.if-numbers.branch [
+      | then-numbers w ↦ form_by c.args.b.now w.if-numbers.true (sym c.if-in_turn.true ∙ w.value-is ∙ w.in_turn.ensures) c.rest_spare.ensures
+      | else-numbers w ↦ cc
+    ]
 
-pub in_turn-turn-requires : goal.in_turn-turn-requires
+pub returns-else-in_turn : goal.returns-else-in_turn
 unfolding numbers_ok
-in_turn-turn-requires c =
-    let n = numbers_in c.args.b (c.if-not-numbers.false) in (n.room, n.counts, n.next)
-
-pub rest_spare-requires : goal.rest_spare-requires
-unfolding numbers_ok
-rest_spare-requires c =
-    (numbers_in c.args.b (c.if-not-numbers.false)).room
-
-pub returns : goal.returns
-unfolding numbers_ok
-returns c =
-    form_by c.args.b (c.if-not-numbers.false) c.in_turn-turn.ensures c.rest_spare.ensures
+returns-else-in_turn c =
+    elim c.if-numbers.branch [
+      | then-numbers w ↦ c.if-in_turn.false ∙ form_by c.args.b.now w.if-numbers.true (sym c.if-in_turn.false ∙ w.value-is ∙ w.in_turn.ensures) refl
+      | else-numbers w ↦ c.if-in_turn.false ∙ sym (form_bad c.args.b.now w.if-numbers.false)
+    ]

@@ -1,56 +1,20 @@
+use Rattle.std.proofs.Common.{refl, sym, ◌∙◌, arith}
 use Rattle.outbox.specs.Outbox.{held_of}
-use Rattle.outbox.specs.Laws.{turn_on, turn_end}
-use mathlib.Core.Path.{◌≡◌, refl, sym, ◌∙◌}
-use mathlib.Core.Bool.{and-true}
-use lib.ListN.{length, take}
-use native.Mathlib.Omega.{arith}
-use borrow.Author.Rules.{rules}
-use lib.Seq.{length-take-le}
-use Rattle.outbox.proofs.Room.{unmapped}
+use Rattle.outbox.specs.Laws.{turn_stops, turn_goes, turn_end}
+use Rattle.outbox.proofs.Alike.{alike_by, unlike_by}
 use Rattle.outbox.proofs.form.in_turn.Goals as goal
 
-pub overflow_sub-count : goal.overflow_sub-count
-overflow_sub-count c =
-    omega arith
+pub loop-e-init : goal.loop-e-init
+unfolding held_of
+loop-e-init c = (omega arith, refl)
 
-pub loop-i-init : goal.loop-i-init
-loop-i-init c =
-    (omega arith, omega arith, refl)
+pub returns-then-ne : goal.returns-then-ne
+returns-then-ne c =
+    turn_stops c.loop-e.due c.loop-e.e-index _ _ c.loop-e-test.true c.notice_of.ensures (unlike_by c.notice_of.result c.loop-e.due c.ne.ensures c.if-ne.true) ∙ c.loop-e.invariant.1
 
-pub offset_bounds-places-i : goal.offset_bounds-places-i
-offset_bounds-places-i c =
-    omega arith
-
-pub bounds-places-i : goal.bounds-places-i
-bounds-places-i c =
-    omega arith
-
-pub overflow_add-count : goal.overflow_add-count
-overflow_add-count c =
-    omega arith
-
-pub overflow_add-i : goal.overflow_add-i
-overflow_add-i c =
-    omega arith
-
-pub loop-i-smaller : goal.loop-i-smaller
-loop-i-smaller c =
-    omega arith
-
-pub loop-i-preserved : goal.loop-i-preserved
-loop-i-preserved c =
-    let b = c.args.b in
-    let l : length b.places ≡ 30 = search (rules, unmapped) in (
-      omega arith,
-      omega arith,
-      turn_on b.cell b.life c.loop-i.count c.loop-i.i b.held b.places _ c.notice_of.result c.loop-i.ok c.alike-ok.result (omega arith) (omega arith)
-          c.alike-ok.ensures c.notice_of.ensures ∙ c.loop-i.invariant.2,
-    )
+pub loop-e-preserved : goal.loop-e-preserved
+loop-e-preserved c =
+    (omega arith, turn_goes c.loop-e.due c.loop-e.e-index _ _ c.loop-e-test.true c.notice_of.ensures (alike_by c.notice_of.result c.loop-e.due c.ne.ensures c.if-ne.false) ∙ c.loop-e.invariant.1)
 
 pub returns : goal.returns
-unfolding held_of
-returns c =
-    let b = c.args.b in
-    let l : length b.places ≡ 30 = search (rules, unmapped) in
-    let k : length (take b.held b.places) ≡ b.held = length-take-le b.held b.places (omega arith) in
-    sym (and-true c.loop-i.ok) ∙ sym (rw (turn_end b.cell b.life c.loop-i.count c.loop-i.i (take b.held b.places) (omega arith)) at (sym c.loop-i.invariant.2))
+returns c = sym (turn_end c.loop-e.due c.loop-e.e-index _ c.loop-e-test.false) ∙ c.loop-e.invariant.1

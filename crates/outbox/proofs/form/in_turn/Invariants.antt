@@ -1,12 +1,8 @@
-use Rattle.outbox.specs.Outbox.{oldest_of, in_turn}
-use mathlib.Core.Path.{◌≡◌}
-use mathlib.Core.Bool.{◌&&◌}
-use Prim.Native.Nat.{◌+◌, ◌-◌, ◌≤◌}
-use lib.ListN.{take, drop}
+use Rattle.std.proofs.Common.{◌≡◌, ◌+◌, drop}
+use Rattle.outbox.specs.Outbox.{oldest_of, in_turn, held_of}
 use Rattle.outbox.proofs.form.in_turn.Given as goal
 
-abbrev pub invariant-loop-i : goal.invariant-loop-i
-invariant-loop-i l = (l.i ≤ l.held) × (l.count ≡ oldest_of l.b + l.i) × ((l.ok && in_turn l.b.cell l.b.life l.count (drop l.i (take l.held l.places))) ≡ in_turn l.b.cell l.b.life (oldest_of l.b) (take l.held l.places))
-
-abbrev pub decreases-loop-i : goal.decreases-loop-i
-decreases-loop-i l = l.held - l.i
+abbrev pub invariant-loop-e : goal.invariant-loop-e
+invariant-loop-e l =
+    (l.due.count ≡ oldest_of l.b + l.e-index)
+    × (in_turn l.due.cell l.due.life l.due.count (drop l.e-index l.e-items) ≡ in_turn l.b.cell l.b.life (oldest_of l.b) (held_of l.b))

@@ -1,11 +1,18 @@
-use mathlib.Core.Path.{refl}
+use Rattle.std.proofs.Common.{refl, sym}
+use Rattle.text.specs.Cards.{range_counts}
 use Rattle.text.proofs.CardLaws.{head_good, head_bad}
 use Rattle.text.proofs.card.card_counts.Goals as goal
 
-pub returns-then-ok : goal.returns-then-ok
-returns-then-ok c =
-    head_good _ _ c.read_form-t.ensures.0 _ _ _ _ _ c.if-ok.true c.read_form-t.ensures.1 refl c.range_counts.ensures c.word_at.ensures c.word_at-then-ok.ensures
+pub returns-in_err-next : goal.returns-in_err-next
+returns-in_err-next c =
+    rw c.from_residual.ensures (head_bad _ c.in_err-next.ensures.0)
+
+pub returns-then-not-counts_ok : goal.returns-then-not-counts_ok
+unfolding range_counts
+returns-then-not-counts_ok c =
+    head_good _ _ _ _ _ _ _ c.in_ok-next.ensures.0 c.read_form.ensures.1 refl (rw (sym c.if-not-counts_ok.ensures)) c.word_at-cells.ensures c.word_at-delays.ensures
 
 pub returns : goal.returns
+unfolding range_counts
 returns c =
-    head_bad _ _ c.read_form-t.ensures.0 c.if-ok.false
+    head_good _ _ _ _ _ _ _ c.in_ok-next.ensures.0 c.read_form.ensures.1 refl (rw (sym c.if-not-counts_ok.ensures)) c.word_at-cells.ensures c.word_at-delays.ensures

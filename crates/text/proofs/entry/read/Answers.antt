@@ -1,14 +1,16 @@
-use Rattle.text.proofs.VoidLaws.{entry_reading, entry_void, entry_other}
+use Rattle.std.proofs.Common.{refl}
+use Rattle.std.proofs.lemmas.Result.{err_from_is_err_and}
+use Rattle.text.proofs.VoidLaws.{entry_reading, entry_void, entry_none}
 use Rattle.text.proofs.entry.read.Goals as goal
 
-pub returns-then-x-eq0 : goal.returns-then-x-eq0
-returns-then-x-eq0 c =
-    entry_reading _ _ c.read-x.ensures c.if-x-eq0.true
+pub returns-in-Ok : goal.returns-in-Ok
+returns-in-Ok c =
+    entry_reading _ _ c.in-Ok.ensures refl
 
-pub returns-then-v-eq0 : goal.returns-then-v-eq0
-returns-then-v-eq0 c =
-    entry_void _ _ c.read-v.ensures c.if-v-eq0.true
+pub returns-in_err-taken : goal.returns-in_err-taken
+returns-in_err-taken c =
+    let p = err_from_is_err_and c.from_residual.result c.from_residual.ensures.1 in rw (p.1, p.2) (entry_none _ _ _ c.in_err-taken.ensures c.in_default.ensures)
 
 pub returns : goal.returns
 returns c =
-    entry_other _ _ _ c.read-v.ensures c.if-v-eq0.false c.read-x.ensures
+    entry_void _ _ c.in_ok-taken.ensures refl

@@ -1,5 +1,4 @@
-use mathlib.Core.Path.{◌≡◌, sym, ◌∙◌}
-use mathlib.Core.Bool.{true, false}
+use Rattle.std.proofs.Common.{◌≡◌, true, false, sym, ◌∙◌}
 use Rattle.text.specs.Printed.{sheet_text, sheet_printable}
 use Rattle.text.proofs.print.sheet.Goals as goal
 

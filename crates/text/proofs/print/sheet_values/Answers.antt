@@ -1,7 +1,6 @@
+use Rattle.std.proofs.Common.{rules, w64, to_z-of_z}
 use Rattle.text.proofs.Printable.{sheet_small}
-use mir.Syntax.{w64}
-use mir.Facts.{to_z_pos, to_z-of_z}
-use borrow.Author.Rules.{rules}
+use mir.Facts.{to_z_pos}
 use Rattle.text.proofs.print.sheet_values.Goals as goal
 
 pub overflow_cast-result : goal.overflow_cast-result
@@ -53,6 +52,5 @@ returns c =
       to_z_pos w64 {n = a.drain.0} (sheet_small c.args.s c.requires 6),
       to_z_pos w64 {n = a.release.0} (sheet_small c.args.s c.requires 7),
       to_z_pos w64 {n = a.stored.0} (sheet_small c.args.s c.requires 8),
-      to_z-of_z {w = w64} {z = c.signed.result} (search rules),
-      c.signed.ensures,
+      to_z-of_z {w = w64} {z = a.recharge.0} (search rules),
     )

@@ -4,4 +4,4 @@ use Rattle.text.proofs.reading.write.Goals as goal
 pub returns : goal.returns
 unfolding text_of
 returns c =
-    rw c.reading_values-v.ensures at c.put_line.ensures
+    rw c.reading_values.ensures at c.put_line.ensures

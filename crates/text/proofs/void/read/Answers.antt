@@ -1,11 +1,11 @@
-use mathlib.Core.Path.{refl}
-use Rattle.text.proofs.VoidLaws.{read_good, refused}
+use Rattle.std.proofs.lemmas.Result.{err_from_is_err_and}
+use Rattle.text.proofs.VoidLaws.{void_took, void_stops}
 use Rattle.text.proofs.void.read.Goals as goal
 
-pub returns-then-ok : goal.returns-then-ok
-returns-then-ok c =
-    read_good _ _ _ _ _ refl c.read_line-t.ensures.0 c.read_line-t.ensures.1 c.if-ok.true c.to_notice-notice.ensures
+pub returns-in_err-line : goal.returns-in_err-line
+returns-in_err-line c =
+    let p = err_from_is_err_and c.from_residual.result c.from_residual.ensures.1 in rw (p.1, p.2) (void_stops _ _ c.in_err-line.ensures)
 
 pub returns : goal.returns
 returns c =
-    refused _ _ c.read_line-t.ensures.0 c.if-ok.false
+    void_took _ _ _ c.in_ok-line.ensures c.to_notice.ensures

@@ -4,4 +4,4 @@ use Rattle.text.proofs.void.write.Goals as goal
 pub returns : goal.returns
 unfolding void_text
 returns c =
-    rw c.void_values-v.ensures at c.put_line.ensures
+    rw c.void_values.ensures at c.put_line.ensures
