@@ -18,18 +18,9 @@ fn into(rt: &impl Print, cells: u32, old: &[u32], numbers: usize) -> io::Result<
     over(rt, cells, old, &mut rows[..numbers])
 }
 
-// Two plots' rows, with another number at one place.
-fn changed(place: usize, number: u32) -> [u32; 64] {
-    let mut old = plots::old();
-    if place < 64 {
-        old[place] = number;
-    }
-    old
-}
-
-// The same, moved over.
+// Two plots' rows with another number at one place, moved over.
 fn with(rt: &impl Print, what: &str, place: usize, number: u32) -> io::Result<()> {
-    let old = changed(place, number);
+    let old = plots::with(plots::old(), place, number);
     show::named(rt, what, number)?;
     print!(rt; ", ")?;
     into(rt, 2, &old, 72)

@@ -110,11 +110,10 @@ pub fn new() -> [u32; 72] {
     rows
 }
 
-// Rows of two plots in the new form, with another number at one place.
-pub fn with(rows: [u32; 72], place: usize, number: u32) -> [u32; 72] {
-    let mut changed = rows;
-    if place < 72 {
-        changed[place] = number;
+// Rows with another number at one place.
+pub fn with<const N: usize>(mut rows: [u32; N], place: usize, number: u32) -> [u32; N] {
+    if let Some(old) = rows.get_mut(place) {
+        *old = number;
     }
-    changed
+    rows
 }
