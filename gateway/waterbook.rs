@@ -53,7 +53,7 @@ use core::fmt;
 /// The version of the library; include/waterbook.h says what raises which part.
 pub const VERSION_MAJOR: u32 = 5;
 pub const VERSION_MINOR: u32 = 1;
-pub const VERSION_PATCH: u32 = 0;
+pub const VERSION_PATCH: u32 = 1;
 /// The version as one number.
 pub const VERSION: u32 = 1_000_000 * VERSION_MAJOR + 1_000 * VERSION_MINOR + VERSION_PATCH;
 
@@ -103,18 +103,18 @@ pub const STACK_STEP: usize = 832;
 pub const STACK_VOID: usize = 832;
 pub const STACK_CLEAR: usize = 208;
 pub const STACK_COLLECT: usize = 240;
-pub const STACK_GROW: usize = 704;
-pub const STACK_SHRINK: usize = 576;
+pub const STACK_GROW: usize = 320;
+pub const STACK_SHRINK: usize = 256;
 pub const STACK_ADD: usize = 184;
-pub const STACK_READ_CARD: usize = 1_760;
-pub const STACK_WRITE_CARD: usize = 2_016;
+pub const STACK_READ_CARD: usize = 800;
+pub const STACK_WRITE_CARD: usize = 1_216;
 pub const STACK_READ_READING: usize = 368;
 pub const STACK_WRITE_READING: usize = 544;
 pub const STACK_READ_VOID: usize = 192;
 pub const STACK_WRITE_VOID: usize = 464;
 pub const STACK_WRITE_ANSWER: usize = 960;
 pub const STACK_WRITE_SHEET: usize = 912;
-pub const STACK_BOOK: usize = 49_920;
+pub const STACK_BOOK: usize = 49_152;
 
 /// The number of a raw call that was accepted.
 pub const ACCEPTED: u32 = 0;

@@ -60,7 +60,7 @@ extern "C" {
  * comes, or a stack stated below grows: build the host again. PATCH rises where none of this is so, as for speed. */
 #define OUTBOX_VERSION_MAJOR 1
 #define OUTBOX_VERSION_MINOR 1
-#define OUTBOX_VERSION_PATCH 1
+#define OUTBOX_VERSION_PATCH 2
 #define OUTBOX_VERSION (1000000 * OUTBOX_VERSION_MAJOR + 1000 * OUTBOX_VERSION_MINOR + OUTBOX_VERSION_PATCH)
 
 /* The number that a call returns. */

@@ -16,12 +16,8 @@ fn read_into(rt: &impl Print, s: &[u8], soil: &mut [i64]) -> io::Result<()> {
     print!(rt; "|")?;
     rt.write_all(s)?;
     show::form(rt, b"|code=# taken=# line=#, ", &show::taken(read))?;
-    let card = match read {
-        Ok(read) => read.value,
-        Err(_) => plots::no_card(),
-    };
     let mut buf = [0u8; 300];
-    write(rt, card, soil, &mut buf)
+    write(rt, show::card_read(read), soil, &mut buf)
 }
 
 // A card, read from a text, with room for one plot.

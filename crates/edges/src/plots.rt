@@ -1,5 +1,7 @@
 // The plot of document 01's example, which each case changes in one place.
-ghost use Rattle.std.specs.Prelude.{◌≡◌};
+ghost use Rattle.std.specs.Prelude.{◌≡◌, []};
+ghost use Rattle.text.specs.Cards.{no_card};
+ghost use Rattle.text.specs.Readings.{fields_of};
 ghost use Rattle.edges.specs.Plots.{depths_of, metre_by_metre, card_of, bare_card, soil_numbers, reading_at};
 
 use cell::{Card, Reading};
@@ -94,7 +96,9 @@ pub fn reading() -> Reading
 }
 
 // A card and a reading of zeros, which a refused reader stands for.
-pub fn no_card() -> Card {
+pub fn no_card() -> Card
+    ensures { result ≡ no_card }
+{
     Card {
         cells: 0,
         share: 0,
@@ -102,7 +106,9 @@ pub fn no_card() -> Card {
     }
 }
 
-pub fn no_reading() -> Reading {
+pub fn no_reading() -> Reading
+    ensures { result ≡ fields_of [] }
+{
     Reading {
         rain: 0,
         septic: 0,

@@ -16,11 +16,7 @@ fn read(rt: &impl Print, s: &[u8]) -> io::Result<()> {
     print!(rt; "|")?;
     rt.write_all(s)?;
     show::form(rt, b"|code=# taken=# line=#\n  ", &show::taken(read))?;
-    let r = match read {
-        Ok(read) => read.value,
-        Err(_) => plots::no_reading(),
-    };
-    again(rt, r)
+    again(rt, show::reading_read(read))
 }
 
 // The example's reading, written into a buffer of zeros.

@@ -43,7 +43,7 @@ fn read(rt: &impl Print, s: &[u8]) -> io::Result<()> {
     let mut soil = [0i64; 5];
     let read = text::card::read(s, &mut soil);
     let [number, _, line] = show::taken(read);
-    let share = read.map_or(0, |read| read.value.share);
+    let share = show::card_read(read).share;
     show::form(
         rt,
         b"  read: code=# line=# share=#\n",

@@ -1,6 +1,13 @@
 // What is printed of a case: its numbers, what came back, and the row in use as it then stands.
+ghost use Rattle.std.specs.Prelude.{◌≡◌, [], ◌∷◌};
+ghost use Rattle.text.specs.Cards.{card_given};
+ghost use Rattle.text.specs.Readings.{reading_given};
+ghost use Rattle.text.specs.Voids.{void_given};
+ghost use Rattle.text.specs.Reads.{number_read, taken_read, line_read};
+ghost use Rattle.text.specs.Written.{written_given};
+
 use crate::plots;
-use cell::{Answer, Card, Entry, Reading};
+use cell::{Answer, Card, Entry, Notice, Reading};
 use std::io;
 use text::{Read, Unread, Unwritten};
 
@@ -13,7 +20,9 @@ pub fn line(rt: &impl Print, buf: &[u8], written: Result<usize, Unwritten>) -> i
 }
 
 // The number of what was written, and its length.
-pub fn written(written: Result<usize, Unwritten>) -> [u64; 2] {
+pub fn written(written: Result<usize, Unwritten>) -> [u64; 2]
+    ensures { result ≡ (written_given written).number ∷ (written_given written).len ∷ [] }
+{
     match written {
         Ok(len) => [0, len as u64],
         Err(why) => [u64::from(u32::from(why)), 0],
@@ -21,10 +30,44 @@ pub fn written(written: Result<usize, Unwritten>) -> [u64; 2] {
 }
 
 // The number of what was read, the bytes taken, and the malformed line.
-pub fn taken<T: Copy>(read: Result<Read<T>, Unread>) -> [u64; 3] {
+pub fn taken<T: Copy>(read: Result<Read<T>, Unread>) -> [u64; 3]
+    ensures { result ≡ number_read read ∷ taken_read read ∷ line_read read ∷ [] }
+{
     match read {
         Ok(Read { taken, .. }) => [0, taken as u64, 0],
         Err(why) => [u64::from(u32::from(why)), 0, why.line() as u64],
+    }
+}
+
+// The card, the reading and the notice that a reader comes to, by its definition: zeros where it was refused.
+pub fn card_read(read: Result<Read<Card>, Unread>) -> Card
+    ensures { result ≡ (card_given read).card }
+{
+    match read {
+        Ok(read) => read.value,
+        Err(_) => plots::no_card(),
+    }
+}
+
+pub fn reading_read(read: Result<Read<Reading>, Unread>) -> Reading
+    ensures { result ≡ (reading_given read).reading }
+{
+    match read {
+        Ok(read) => read.value,
+        Err(_) => plots::no_reading(),
+    }
+}
+
+pub fn notice_read(read: Result<Read<Notice>, Unread>) -> Notice
+    ensures { result ≡ (void_given read).notice }
+{
+    match read {
+        Ok(read) => read.value,
+        Err(_) => Notice {
+            cell: 0,
+            life: 0,
+            count: 0,
+        },
     }
 }
 

@@ -157,12 +157,8 @@ fn frozen(rt: &impl Print) -> io::Result<()> {
 // A void, read from a text that stands between two bars, and its line; a void of zeros where it was refused.
 fn read(rt: &impl Print, s: &[u8]) -> io::Result<()> {
     let read = text::void::read(s);
-    let n = match read {
-        Ok(read) => read.value,
-        Err(_) => FIRST,
-    };
     let mut buf = [0u8; 60];
-    let written = text::void::write(n, &mut buf);
+    let written = text::void::write(show::notice_read(read), &mut buf);
     print!(rt; "|")?;
     rt.write_all(s)?;
     show::form(rt, b"|code=# taken=# line=#\n  ", &show::taken(read))?;

@@ -24,6 +24,9 @@ marks_count f = sym (is_count_by marks is_mark refl (λ c r. let e : 1 + marks r
 
 -- the end of the form
 module _ (f : List ℕ) (k : ℕ) (h : length f ≤ k) where
+  pub marks_end : marks (drop k f) ≡ 0
+  marks_end = rw (drop_of_length-le f h)
+
   pub form_end : (s : List ℕ) (i : ℕ) → form_at (drop k f) s i ≡ record { ok = true; next = i; vals = [] }
   unfolding form_at
   form_end s i = rw (drop_of_length-le f h)
@@ -99,10 +102,10 @@ module _ (f : List ℕ) (k : ℕ) (h : k < length f) where
     unfolding fits
     fits_lit vs = rw (add-one k, drop-cons f k 0 h, m)
 
-pub ruleset reading = (marks_mark, marks_lit, form_end, form_val, form_not, form_lit, form_other)
+pub ruleset reading = (marks_mark, marks_lit, marks_end, form_end, form_val, form_not, form_lit, form_other)
 
-pub ruleset measuring = (marks_mark, marks_lit, text_end, len_mark, len_lit)
+pub ruleset measuring = (marks_mark, marks_lit, marks_end, text_end, len_mark, len_lit)
 
-pub ruleset writing = (marks_mark, marks_lit, text_end, put_mark, put_lit, len_mark, len_lit)
+pub ruleset writing = (marks_mark, marks_lit, marks_end, text_end, put_mark, put_lit, len_mark, len_lit)
 
-pub ruleset fitting = (marks_mark, marks_lit, fits_end, fits_yes, fits_no, fits_lit)
+pub ruleset fitting = (marks_mark, marks_lit, marks_end, fits_end, fits_yes, fits_no, fits_lit)

@@ -4,7 +4,7 @@ ghost use Rattle.std.proofs.lemmas.List.Edits.{sets};
 ghost use Rattle.form.specs.Form.{marks};
 ghost use Rattle.form.specs.Many.{many_at, stood_of, rows_text, many_fit};
 
-use crate::line::{form_fits, form_len, marks, put_form, read_form};
+use crate::line::{put_row, read_form, read_row, row_fits, row_len};
 
 // Reads the form f n times from `from` on, and puts the values into vals from `first` on: the place after it, or how often it stood.
 #[tactic(auto, using(crate::proofs::Rows::reading_rows))]
@@ -20,12 +20,10 @@ pub fn read_many(
     ensures { (result ≡ stood_of (many_at n f.now s.now from))
         × (vals.new ≡ sets vals.old first (many_at n f.now s.now from).vals) }
 {
-    let w = marks(f);
     let mut at = from;
     let mut j = first;
     for k in 0..n {
-        at = read_form(s, at, f, vals, j).ok_or(k)?;
-        j += w;
+        at = read_row(s, at, f, vals, &mut j).ok_or(k)?;
     }
     Ok(at)
 }
@@ -50,12 +48,12 @@ pub fn many_len(f: &[u8], n: usize, vals: &[i64], first: usize) -> usize
     requires { (first + n * marks f.now ≤ length vals.now) × (length f.now ≤ 64) × (n ≤ 256) }
     ensures { (result ≡ length (rows_text n f.now (drop first vals.now))) × (result ≤ n * 1344) }
 {
-    let w = marks(f);
     let mut len: usize = 0;
     let mut j = first;
     for _ in 0..n {
-        len += form_len(f, vals, j);
-        j += w;
+        let (row, behind) = row_len(f, vals, j);
+        len += row;
+        j = behind;
     }
     len
 }
@@ -74,12 +72,10 @@ pub fn put_many(
     ensures { (result ≡ from + length (rows_text n f.now (drop first vals.now)))
         × (buf.new ≡ sets buf.old from (rows_text n f.now (drop first vals.now))) }
 {
-    let w = marks(f);
     let mut at = from;
     let mut j = first;
     for _ in 0..n {
-        at = put_form(f, vals, j, buf, at);
-        j += w;
+        (at, j) = put_row(f, vals, j, buf, at);
     }
     at
 }
@@ -90,13 +86,12 @@ pub fn many_fit(f: &[u8], n: usize, vals: &[i64], first: usize) -> bool
     requires { first + n * marks f.now ≤ length vals.now }
     ensures { result ≡ many_fit n f.now (drop first vals.now) }
 {
-    let w = marks(f);
     let mut j = first;
     for _ in 0..n {
-        if !form_fits(f, vals, j) {
+        let Some(behind) = row_fits(f, vals, j) else {
             return false;
-        }
-        j += w;
+        };
+        j = behind;
     }
     true
 }

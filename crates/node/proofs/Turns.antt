@@ -15,6 +15,9 @@ unfolding zeros
 zeros_all [] = refl
 zeros_all (n ∷ l) = ap (λ (r : Bool). eqb n 0 && r) (zeros_all l)
 
+pub rest_is : (a : ℕ) (l : List ℕ) → take (length l - a) (drop a l) ≡ drop a l
+rest_is a l = take_all (length l - a) (drop a l) (omega (arith, length-drop a l))
+
 -- ---- an entry, by its kind
 abbrev pub read_entry : List ℕ → Option Entry
 read_entry l = cond (is_entry l) (Some (entry_from l)) None
@@ -24,13 +27,16 @@ module _ (l : List ℕ) {row : List ℕ} (r : row ≡ drop 1 l) where
   unfolding is_entry entry_from
   reads_reading k = rw (r, k)
 
+  pub figures : drop 4 l ≡ drop 3 row
+  figures = sym (drop-drop 3 1 l) ∙ ap (drop 3) (sym r)
+
   pub reads_void : get_or l 0 0 ≡ 1 → zeros (drop 3 row) ≡ true → Some (Entry.Void (notice_from (take 3 row))) ≡ read_entry l
   unfolding is_entry entry_from
-  reads_void k z = let e : zeros (drop 4 l) ≡ true = ap zeros (sym (drop-drop 3 1 l) ∙ ap (drop 3) (sym r)) ∙ z in rw (r, k, e)
+  reads_void k z = let e : zeros (drop 4 l) ≡ true = ap zeros figures ∙ z in rw (r, k, e)
 
   pub reads_figures : get_or l 0 0 ≡ 1 → zeros (drop 3 row) ≡ false → None ≡ read_entry l
   unfolding is_entry
-  reads_figures k z = let e : zeros (drop 4 l) ≡ false = ap zeros (sym (drop-drop 3 1 l) ∙ ap (drop 3) (sym r)) ∙ z in rw (k, e)
+  reads_figures k z = let e : zeros (drop 4 l) ≡ false = ap zeros figures ∙ z in rw (k, e)
 
 pub reads_none : (l : List ℕ) → (get_or l 0 0 ≡ 0 → ⊥) → (get_or l 0 0 ≡ 1 → ⊥) → None ≡ read_entry l
 unfolding is_entry

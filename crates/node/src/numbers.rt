@@ -20,8 +20,8 @@ pub fn entry_from(l: &[u32; 11]) -> Option<Entry>
     match l[0] {
         0 => Some(Entry::Reading(shapes::reading_from(row))),
         1 => {
-            let (notice, rest) = row.split_first_chunk::<3>()?;
-            if all_zero(rest) {
+            let notice = row.first_chunk::<3>()?;
+            if all_zero(&l[4..]) {
                 Some(Entry::Void(shapes::notice_from(notice)))
             } else {
                 None

@@ -84,6 +84,7 @@ impl Recut {
     }
 
     // Every row of a slice, from its old form into its new one.
+    #[inline(always)]
     #[tactic(auto, using(crate::proofs::Turns::room))]
     pub fn rows(self, cells: usize, from: &[u32], to: &mut [u32])
         requires old { length from.now ≡ self.width * cells }
@@ -99,10 +100,10 @@ impl Recut {
     }
 
     // Checks 1 and, for either slice, 2.
-    pub fn fits(self, card: Card, from: &[u32], to: &[u32]) -> Result<(), Refusal>
-        ensures { result ≡ fitting card (length from.now) (self.width * card.cells) (length to.now) (width_after self.width self.out self.more * card.cells) }
+    pub fn fits(self, card: &Card, from: &[u32], to: &[u32]) -> Result<(), Refusal>
+        ensures { result ≡ fitting card.now (length from.now) (self.width * card.now.cells) (length to.now) (width_after self.width self.out self.more * card.now.cells) }
     {
-        if !cell::card_ok(card) {
+        if !cell::card_ok(*card) {
             return Err(Refusal::BadCard);
         }
         let cells = card.cells as usize;
@@ -113,14 +114,14 @@ impl Recut {
     }
 
     // Check 5 of every row.
-    pub fn in_range(self, card: Card, rows: &[u32]) -> Result<(), Refusal>
-        requires card_fits { card_ok card ≡ true }
-        requires rows_fit { length rows.now ≡ self.width * card.cells }
-        ensures { result ≡ passed (all_rows (form_ok card.delays) card.cells self.width rows.now) BadRow }
+    pub fn in_range(self, card: &Card, rows: &[u32]) -> Result<(), Refusal>
+        requires card_fits { card_ok card.now ≡ true }
+        requires rows_fit { length rows.now ≡ self.width * card.now.cells }
+        ensures { result ≡ passed (all_rows (form_ok card.now.delays) card.now.cells self.width rows.now) BadRow }
     {
         if rows
             .chunks_exact(self.width)
-            .all(|row| cell::form_ok(card, row))
+            .all(|row| cell::form_ok(*card, row))
         {
             Ok(())
         } else {
@@ -129,9 +130,9 @@ impl Recut {
     }
 
     // Every sum of every row is 0.
-    pub fn collected(self, card: Card, rows: &[u32]) -> Result<(), Unmoved>
-        requires rows_fit { length rows.now ≡ self.width * card.cells }
-        ensures { result ≡ passed (all_rows no_sums card.cells self.width rows.now) Uncollected }
+    pub fn collected(self, card: &Card, rows: &[u32]) -> Result<(), Unmoved>
+        requires rows_fit { length rows.now ≡ self.width * card.now.cells }
+        ensures { result ≡ passed (all_rows no_sums card.now.cells self.width rows.now) Uncollected }
     {
         if rows.chunks_exact(self.width).all(|row| cell::is_empty(row)) {
             Ok(())

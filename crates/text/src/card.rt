@@ -26,10 +26,10 @@ const SOIL: [u8; 37] = *b"top=$ etdepth=# vadpor=# leak=# cn=#\n";
 
 // The first line's two counts, and the place behind them.
 #[derive(Clone, Copy)]
-struct Counts {
-    next: usize,
-    cells: u32,
-    delays: u32,
+pub struct Counts {
+    pub next: usize,
+    pub cells: u32,
+    pub delays: u32,
 }
 
 // Whether a card may have that many cells and delays.
@@ -63,9 +63,9 @@ fn card_counts(s: &[u8]) -> Option<Counts>
 
 // [5] The rest of the first line: the share, and the place after the line's end.
 #[derive(Clone, Copy)]
-struct Tail {
-    next: usize,
-    share: u32,
+pub struct Tail {
+    pub next: usize,
+    pub share: u32,
 }
 
 fn card_tail(s: &[u8], at: usize) -> Option<Tail>
@@ -111,16 +111,21 @@ pub fn read(s: &[u8], soil: &mut [i64]) -> Result<Read<Card>, Unread>
         value: Card {
             cells: h.cells,
             delays: h.delays,
-            depths: to_depths(v),
+            depths: to_depths(&v),
             share: t.share,
         },
     })
 }
 
-fn to_depths(v: [i64; 30]) -> [u32; 30]
-    ensures { result ≡ map word_of v }
+#[tactic(auto, using(crate::proofs::CardLaws::words_turn))]
+fn to_depths(v: &[i64; 30]) -> [u32; 30]
+    ensures { result ≡ map word_of v.now }
 {
-    v.map(word)
+    let mut depths = [0; 30];
+    for i in 0..30 {
+        depths[i] = word(v[i]);
+    }
+    depths
 }
 
 fn count_values(cells: u32, delays: u32) -> [i64; 2]
@@ -129,10 +134,15 @@ fn count_values(cells: u32, delays: u32) -> [i64; 2]
     [cells, delays].map(i64::from)
 }
 
-fn depth_values(depths: [u32; 30]) -> [i64; 30]
-    ensures { result ≡ map pos depths }
+#[tactic(auto, using(crate::proofs::CardTexts::vals_turn))]
+fn depth_values(depths: &[u32; 30]) -> [i64; 30]
+    ensures { result ≡ map pos depths.now }
 {
-    depths.map(i64::from)
+    let mut values = [0; 30];
+    for i in 0..30 {
+        values[i] = i64::from(depths[i]);
+    }
+    values
 }
 
 fn all_zero(depths: &[u32]) -> bool
@@ -167,31 +177,30 @@ fn put_tail(share: u32, buf: &mut [u8], at: usize) -> usize
     end + 1
 }
 
-// The length of the text of a card with its soil numbers.
+// The length of the text of a card, its depths as values, with its soil numbers.
 #[tactic(auto, using(crate::proofs::CardTexts::writing_cards))]
-fn card_len(card: Card, soil: &[i64]) -> usize
-    requires { (has_text card ≡ true) × (length soil.now ≡ card.cells * 5) }
-    ensures { result ≡ length (card_text card soil.now) }
+fn card_len(card: &Card, depths: &[i64; 30], soil: &[i64]) -> usize
+    requires { (has_text card.now ≡ true) × (depths.now ≡ map pos card.now.depths) × (length soil.now ≡ card.now.cells * 5) }
+    ensures { result ≡ length (card_text card.now soil.now) }
 {
     let h = count_values(card.cells, card.delays);
-    let ds = depth_values(card.depths);
     let a = form_len(&CARD, &h, 0);
-    let b = many_len(&DEPTH, card.delays as usize, &ds, 0);
+    let b = many_len(&DEPTH, card.delays as usize, depths, 0);
     let t = tail_len(card.share);
     let c = many_len(&SOIL, card.cells as usize, soil, 0);
     a + b + t + c
 }
 
-// Writes the text of a card with its soil numbers at the start of buf.
+// Writes the text of a card, its depths as values, with its soil numbers at the start of buf.
 #[tactic(auto, using(crate::proofs::CardTexts::writing_cards))]
-fn put_card(card: Card, soil: &[i64], buf: &mut [u8])
-    requires { (has_text card ≡ true) × (length soil.now ≡ card.cells * 5) × (length (card_text card soil.now) ≤ length buf.old) }
-    ensures { buf.new ≡ sets buf.old 0 (card_text card soil.now) }
+fn put_card(card: &Card, depths: &[i64; 30], soil: &[i64], buf: &mut [u8])
+    requires card_fits { (has_text card.now ≡ true) × (depths.now ≡ map pos card.now.depths) × (length soil.now ≡ card.now.cells * 5) }
+    requires room { length (card_text card.now soil.now) ≤ length buf.old }
+    ensures { buf.new ≡ sets buf.old 0 (card_text card.now soil.now) }
 {
     let h = count_values(card.cells, card.delays);
-    let ds = depth_values(card.depths);
     let a = put_form(&CARD, &h, 0, buf, 0);
-    let b = put_many(&DEPTH, card.delays as usize, &ds, 0, buf, a);
+    let b = put_many(&DEPTH, card.delays as usize, depths, 0, buf, a);
     let t = put_tail(card.share, buf, b);
     put_many(&SOIL, card.cells as usize, soil, 0, buf, t);
 }
@@ -211,10 +220,11 @@ pub fn write(card: Card, soil: &[i64], buf: &mut [u8]) -> Result<usize, Unwritte
     if !many_fit(&SOIL, n, soil, 0) {
         return Err(Unwritten::Unfit);
     }
-    let len = card_len(card, soil);
+    let depths = depth_values(&card.depths);
+    let len = card_len(&card, &depths, soil);
     if buf.len() < len {
         return Err(Unwritten::Unfit);
     }
-    put_card(card, soil, buf);
+    put_card(&card, &depths, soil, buf);
     Ok(len)
 }

@@ -7,5 +7,4 @@ abbrev pub invariant-loop : goal.invariant-loop
 invariant-loop l = record {
   fit : many_fit l.n l.f (drop l.first l.vals) ≡ many_fit (l.n - l.counter) l.f (drop l.j l.vals);
   room : l.j + (l.n - l.counter) * marks l.f ≤ length l.vals;
-  wide : l.w ≡ marks l.f;
 }

@@ -8,5 +8,4 @@ invariant-loop l = record {
   sum : l.len + length (rows_text (l.n - l.counter) l.f (drop l.j l.vals)) ≡ length (rows_text l.n l.f (drop l.first l.vals));
   room : l.j + (l.n - l.counter) * marks l.f ≤ length l.vals;
   low : l.len ≤ l.counter * 1344;
-  wide : l.w ≡ marks l.f;
 }

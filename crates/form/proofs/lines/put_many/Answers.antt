@@ -4,8 +4,8 @@ use Rattle.form.specs.RunLaws.{rows_less}
 use Rattle.form.proofs.Rows.{len_more}
 use Rattle.form.proofs.lines.put_many.Goals as goal
 
-pub put_form-at-requires : goal.put_form-at-requires
-put_form-at-requires c =
+pub put_row-requires : goal.put_row-requires
+put_row-requires c =
     let l = c.loop in
     let w = marks c.args.f.now in
     let r = rows_less c.args.n l.counter w c.loop-test.true in

@@ -10,5 +10,4 @@ invariant-loop l = record {
   sum : l.at + length (rows_text (l.n - l.counter) l.f (drop l.j l.vals)) ≡ l.from + length (rows_text l.n l.f (drop l.first l.vals));
   room : l.j + (l.n - l.counter) * marks l.f ≤ length l.vals;
   same : length l.buf ≡ length l.initial.buf;
-  wide : l.w ≡ marks l.f;
 }

@@ -11,5 +11,4 @@ invariant-loop-k l = record {
   put : sets l.initial.vals l.first (many_at l.n l.f l.s l.from).vals ≡ sets l.vals l.j (many_at (l.n - l.k) l.f l.s l.at).vals;
   room : l.j + (l.n - l.k) * marks l.f ≤ length l.vals;
   same : length l.vals ≡ length l.initial.vals;
-  wide : l.w ≡ marks l.f;
 }

@@ -1,6 +1,6 @@
 use Rattle.std.proofs.Common.{◌-◌, drop, sym, ap, ◌∙◌, arith}
 use Rattle.node.specs.Numbers.{zeros}
-use Rattle.node.proofs.Turns.{reads_reading, reads_void, reads_figures, reads_none}
+use Rattle.node.proofs.Turns.{reads_reading, rest_is, figures, reads_void, reads_figures, reads_none}
 use Rattle.node.proofs.numbers.entry_from.Goals as goal
 
 pub returns-in-0 : goal.returns-in-0
@@ -11,15 +11,15 @@ returns-in-0 c =
 pub returns-then-all_zero : goal.returns-then-all_zero
 returns-then-all_zero c =
     let l = c.args.l.now in
-    let n = c.in_ok-notice-in-1.ensures.cases in
-    rw (c.notice_from.ensures, n.0)
-    (reads_void l (c.in_ok-row.ensures.cases.1.same ∙ ap (λ n. drop (n - 10) l) c.told-l) c.in-1.is (ap zeros (sym n.1) ∙ sym c.all_zero.ensures ∙ c.if-all_zero.true))
+    let r = c.in_ok-row.ensures.cases.1.same ∙ ap (λ n. drop (n - 10) l) c.told-l in
+    rw (c.notice_from.ensures, c.in_ok-notice-in-1.ensures.cases.same)
+    (reads_void l r c.in-1.is (ap zeros (sym (figures l r) ∙ sym (rw c.told-l at (rest_is 4 l))) ∙ sym c.all_zero.ensures ∙ c.if-all_zero.true))
 
 pub returns-else-all_zero : goal.returns-else-all_zero
 returns-else-all_zero c =
     let l = c.args.l.now in
-    reads_figures l (c.in_ok-row.ensures.cases.1.same ∙ ap (λ n. drop (n - 10) l) c.told-l) c.in-1.is
-    (ap zeros (sym c.in_ok-notice-in-1.ensures.cases.1) ∙ sym c.all_zero.ensures ∙ c.if-all_zero.false)
+    let r = c.in_ok-row.ensures.cases.1.same ∙ ap (λ n. drop (n - 10) l) c.told-l in
+    reads_figures l r c.in-1.is (ap zeros (sym (figures l r) ∙ sym (rw c.told-l at (rest_is 4 l))) ∙ sym c.all_zero.ensures ∙ c.if-all_zero.false)
 
 pub returns-in_default : goal.returns-in_default
 returns-in_default c = reads_none c.args.l.now (λ k. omega arith) (λ k. omega arith)

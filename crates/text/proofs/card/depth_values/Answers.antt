@@ -1,7 +1,10 @@
-use Rattle.std.proofs.Common.{rules, tests, pos}
-use Rattle.text.proofs.Arrays.{map_of}
+use Rattle.std.proofs.Common.{rules, refl, map, pos, ◌∙◌}
+use Rattle.std.proofs.lemmas.List.{length-map}
+use Rattle.form.specs.Put.{sets_all}
 use Rattle.text.proofs.card.depth_values.Goals as goal
 
-pub returns : goal.returns
-returns c =
-    map_of _ pos _ 0 c.args.depths _ 30 (search rules) c.map.ensures.items (λ p q x y k. search (rules, tests))
+pub loop-i-init : goal.loop-i-init
+loop-i-init c = record {
+  put = sets_all _ (map pos c.args.depths.now) (length-map c.args.depths.now pos ∙ search rules);
+  long = refl;
+}

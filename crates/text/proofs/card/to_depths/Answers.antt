@@ -1,8 +1,11 @@
-use Rattle.std.proofs.Common.{rules, tests, pos}
+use Rattle.std.proofs.Common.{rules, refl, map, ◌∙◌}
+use Rattle.std.proofs.lemmas.List.{length-map}
 use Rattle.form.specs.Words.{word_of}
-use Rattle.text.proofs.Arrays.{map_of}
+use Rattle.form.specs.Put.{sets_all}
 use Rattle.text.proofs.card.to_depths.Goals as goal
 
-pub returns : goal.returns
-returns c =
-    map_of _ word_of _ (pos 0) c.args.v _ 30 (search rules) c.map.ensures.items (λ p q x y k. search (rules, tests))
+pub loop-i-init : goal.loop-i-init
+loop-i-init c = record {
+  put = sets_all _ (map word_of c.args.v.now) (length-map c.args.v.now word_of ∙ search rules);
+  long = refl;
+}

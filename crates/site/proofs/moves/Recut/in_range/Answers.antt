@@ -7,15 +7,15 @@ use Rattle.site.proofs.moves.Recut.in_range.Goals as goal
 pub returns-then-all : goal.returns-then-all
 returns-then-all c =
     let r = c.if-all.ensures.runs in
-    let m = (card_in c.args.card c.requires.card_fits).delays in
+    let m = (card_in c.args.card.now c.requires.card_fits).delays in
     let u = rw (r.1, c.chunks_exact.ensures.size, c.chunks_exact.ensures.rest) at (c.chunks_exact.ensures.runs r.0 r.0.seen) c.args.self.some in
-    let e = all_passed r.0 c.args.self.width c.args.card.cells c.args.rows.now u c.args.self.some c.requires.rows_fit (λ row. leb c.args.card.delays 30 && form_ok c.args.card.delays row) (λ x h. search (rules, tests)) r.2.0 (r.2.1 (λ a b q k. search (rules, tests))) in
-    rw (rw (le-leb c.args.card.delays 30 m) at e)
+    let e = all_passed r.0 c.args.self.width c.args.card.now.cells c.args.rows.now u c.args.self.some c.requires.rows_fit (λ row. leb c.args.card.now.delays 30 && form_ok c.args.card.now.delays row) (λ x h. search (rules, tests)) r.2.0 (r.2.1 (λ a b q k. search (rules, tests))) in
+    rw (rw (le-leb c.args.card.now.delays 30 m) at e)
 
 pub returns-else-all : goal.returns-else-all
 returns-else-all c =
     let r = c.if-all.ensures.runs in
-    let m = (card_in c.args.card c.requires.card_fits).delays in
+    let m = (card_in c.args.card.now c.requires.card_fits).delays in
     let u = rw (r.1, c.chunks_exact.ensures.size, c.chunks_exact.ensures.rest) at (c.chunks_exact.ensures.runs r.0 r.0.seen) c.args.self.some in
-    let e = one_failed r.0 c.args.self.width c.args.card.cells c.args.rows.now u c.args.self.some c.requires.rows_fit (λ row. leb c.args.card.delays 30 && form_ok c.args.card.delays row) (λ x h. search (rules, tests)) (r.2 (λ a b q k. search (rules, tests))) in
-    rw (rw (le-leb c.args.card.delays 30 m) at e)
+    let e = one_failed r.0 c.args.self.width c.args.card.now.cells c.args.rows.now u c.args.self.some c.requires.rows_fit (λ row. leb c.args.card.now.delays 30 && form_ok c.args.card.now.delays row) (λ x h. search (rules, tests)) (r.2 (λ a b q k. search (rules, tests))) in
+    rw (rw (le-leb c.args.card.now.delays 30 m) at e)

@@ -4,8 +4,8 @@ use Rattle.std.specs.Int.{w64}
 use Rattle.form.specs.Form.{Out, taken_of}
 use Rattle.form.proofs.Turns.{reading, form_got, form_lit, marks_mark, marks_lit}
 use Rattle.form.specs.FormLaws.{byte_end, byte_in}
-use Rattle.form.proofs.line.read_form.Goals as goal
-use Rattle.form.proofs.line.read_form.Goals.{in-Some+in_ok-z, in_default+in_ok-get+else-branch-c}
+use Rattle.form.proofs.line.read_row.Goals as goal
+use Rattle.form.proofs.line.read_row.Goals.{in-Some+in_ok-z, in_default+in_ok-get+else-branch-c}
 
 pub returns-in_err-get : goal.returns-in_err-get
 returns-in_err-get c = let b = byte_end c.args.s.now c.loop-c.at c.in_err-get.ensures.lookup.3 in let t = c.type_inv.f c.loop-c.c-index in grind (arith, reading)
@@ -27,7 +27,8 @@ loop-c-preserved c = elim c.match-of.branch [
       record {
         found = rw w.at-is (c.loop-c.invariant.found ∙ ap taken_of e);
         put = rw (w.at-is, w.j-is, w.vals-is, z, add-one c.loop-c.j) (c.loop-c.invariant.put ∙ ap (λ (o : Out). sets c.loop-c.vals c.loop-c.j o.vals) e);
-        room = omega (arith, w.j-is);
+        room = rw w.vals-is (simp length-set c.loop-c.invariant.room);
+        passed = omega (arith, w.j-is, m, c.loop-c.invariant.passed);
         same = rw w.vals-is (simp length-set c.loop-c.invariant.same);
       }
   | in_default+in_ok-get+else-branch-c w ↦
@@ -38,7 +39,8 @@ loop-c-preserved c = elim c.match-of.branch [
       record {
         found = rw w.at-is (c.loop-c.invariant.found ∙ ap taken_of e);
         put = rw (w.at-is, w.j-is, w.vals-is) (c.loop-c.invariant.put ∙ ap (λ (o : Out). sets c.loop-c.vals c.loop-c.j o.vals) e);
-        room = omega (arith, w.j-is);
+        room = rw w.vals-is c.loop-c.invariant.room;
+        passed = omega (arith, w.j-is, m, c.loop-c.invariant.passed);
         same = rw w.vals-is c.loop-c.invariant.same;
       }
 ]
