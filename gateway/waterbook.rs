@@ -53,7 +53,7 @@ use core::fmt;
 /// The version of the library; include/waterbook.h says what raises which part.
 pub const VERSION_MAJOR: u32 = 5;
 pub const VERSION_MINOR: u32 = 1;
-pub const VERSION_PATCH: u32 = 1;
+pub const VERSION_PATCH: u32 = 2;
 /// The version as one number.
 pub const VERSION: u32 = 1_000_000 * VERSION_MAJOR + 1_000 * VERSION_MINOR + VERSION_PATCH;
 

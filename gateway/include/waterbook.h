@@ -138,7 +138,7 @@ extern "C" {
  * with 20 is written as before; a text with another share was malformed before. */
 #define WATERBOOK_VERSION_MAJOR 5
 #define WATERBOOK_VERSION_MINOR 1
-#define WATERBOOK_VERSION_PATCH 1
+#define WATERBOOK_VERSION_PATCH 2
 #define WATERBOOK_VERSION \
     (1000000 * WATERBOOK_VERSION_MAJOR + 1000 * WATERBOOK_VERSION_MINOR + WATERBOOK_VERSION_PATCH)
 

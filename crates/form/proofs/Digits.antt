@@ -105,6 +105,8 @@ pub len_log : (n k : ℕ) → 10 ^ k ≤ max n 1 → max n 1 < 10 * 10 ^ k → l
 len_log zero k l h = len_small 0 (omega arith) ∙ sym (len_small 1 (omega arith)) ∙ len_step k 1 l h
 len_log (suc n) k l h = len_step k (suc n) (omega arith) (omega arith)
 
+pub ruleset digit_count = (len_small, len_log)
+
 -- writing: the last digit behind the others
 pub ruleset last_digit = (len_small, len_more, len_20, put_small, put_more)
 

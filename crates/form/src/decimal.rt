@@ -37,11 +37,15 @@ pub fn number(s: &[u8], at: usize, max: u64) -> Option<(u64, usize)>
 }
 
 // How many digits n has.
-#[tactic(auto, using(crate::proofs::Digits::len_log))]
+#[tactic(auto, using(crate::proofs::Digits::digit_count))]
 pub fn dec_len(n: u64) -> usize
     ensures { result ≡ length (dec n) }
 {
-    n.max(1).ilog10() as usize + 1
+    // One digit is told sooner without the logarithm.
+    if n < 10 {
+        return 1;
+    }
+    n.ilog10() as usize + 1
 }
 
 // Writes n in decimal from `at` on, and returns the place after it.

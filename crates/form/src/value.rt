@@ -20,12 +20,15 @@ impl Mark {
         ensures some { is_some result ≡ is_mark c }
         ensures byte { IfSome result (λ m. c ≡ byte_of m) }
     {
-        match c {
-            b'#' => Some(Mark::Word),
-            b'$' => Some(Mark::Signed),
-            b'%' => Some(Mark::Hex),
-            _ => None,
+        // By range first: where a form known when compiled has no hex mark, what is done at one then falls away.
+        if !(b'#'..=b'%').contains(&c) {
+            return None;
         }
+        Some(match c {
+            b'%' => Mark::Hex,
+            b'$' => Mark::Signed,
+            _ => Mark::Word,
+        })
     }
 }
 
@@ -56,14 +59,15 @@ pub fn value(mark: Mark, s: &[u8], at: usize) -> Option<(i64, usize)>
     Some((n as i64, next))
 }
 
-// The length of the text of a value with the mark.
+// The length of the text of a value with the mark. Its size is taken once its sign is known, here and in put_value, which is quicker.
 #[tactic(auto, using(crate::proofs::Values::value_texts))]
 pub fn value_len(mark: Mark, z: i64) -> usize
     ensures { (result ≡ length (val_text (byte_of mark) z)) × (result ≤ 21) }
 {
     match mark {
         Mark::Hex => 8,
-        _ => dec_len(z.unsigned_abs()) + usize::from(z < 0),
+        _ if z < 0 => dec_len(z.unsigned_abs()) + 1,
+        _ => dec_len(z.unsigned_abs()),
     }
 }
 
@@ -73,16 +77,13 @@ pub fn put_value(mark: Mark, z: i64, buf: &mut [u8], at: usize) -> usize
     requires { at + length (val_text (byte_of mark) z) ≤ length buf.old }
     ensures { (result ≡ at + length (val_text (byte_of mark) z)) × (buf.new ≡ sets buf.old at (val_text (byte_of mark) z)) }
 {
-    let size = z.unsigned_abs();
     match mark {
-        Mark::Hex => put_hex(8, size, buf, at),
-        _ => {
-            if z < 0 {
-                buf[at] = b'-';
-                return put_dec(size, buf, at + 1);
-            }
-            put_dec(size, buf, at)
+        Mark::Hex => put_hex(8, z.unsigned_abs(), buf, at),
+        _ if z < 0 => {
+            buf[at] = b'-';
+            put_dec(z.unsigned_abs(), buf, at + 1)
         }
+        _ => put_dec(z.unsigned_abs(), buf, at),
     }
 }
 
